@@ -1,0 +1,4 @@
+pub mod Sets
+pub mod Table
+pub mod Interference
+pub mod Answer

@@ -1,0 +1,89 @@
+-- The table of sections (01, "Interference bound"): a section's outer resources, and the refusals 40 to 45 in 01's order.
+-- Entries past `count` are not read. Assumes nothing.
+use Prim.Native.Nat.{ℕ, zero, suc}
+use mathlib.Core.Bool.{Bool, true, false, not, _&&_}
+use mathlib.Core.Option.{Option, none, some}
+use lib.Dec.{ltb, leb, eqb}
+use lib.ListN.{getD}
+use Rattle.laws.specs.Tests.{if_then_else_, accepted, _when_or_, firstOf}
+use Rattle.laws.specs.Loops.{allTo, sumTo, foldTo}
+use Rattle.bound.specs.declared.Parent.{Parent}
+use Rattle.bound.specs.declared.Parent.the-variants.{Outermost, Inside}
+use Rattle.bound.specs.declared.Section.{Section}
+use Rattle.bound.specs.declared.Sections.{Sections}
+use Rattle.bound.specs.Sets.{Resources, noResource, with}
+
+abbrev pub noSection : Section
+noSection = record { task = 0; resource = 0; length = 0; parent = Outermost }
+
+abbrev pub sectionAt : Sections → ℕ → Section
+sectionAt s i = getD (s .section) i noSection
+
+-- a section with the first as its parent stands directly in the second
+abbrev pub directlyIn : Parent → Parent → Bool
+directlyIn Outermost Outermost = true
+directlyIn Outermost (Inside p) = false
+directlyIn (Inside i) Outermost = false
+directlyIn (Inside i) (Inside p) = eqb i p
+
+-- the resources around a section with this parent, n sections outwards
+unfoldable pub around : ℕ → Sections → Parent → Resources
+around zero s p = noResource
+around (suc n) s Outermost = noResource
+around (suc n) s (Inside p) = with (around n s (sectionAt s p .parent)) (sectionAt s p .resource)
+
+-- "Outer resources of a section are those of its ancestors": at most 12, since each is an earlier section
+unfoldable pub outer : Sections → ℕ → Resources
+outer s i = around 12 s (sectionAt s i .parent)
+
+-- "1 to 6 tasks, 0 to 12 sections"
+abbrev pub countsFit : Sections → Bool
+countsFit s = leb 1 (s .tasks) && leb (s .tasks) 6 && leb (s .count) 12
+
+-- "a parent (an earlier section of the same task) or none"
+abbrev pub parentFits : Sections → ℕ → Parent → Bool
+parentFits s i Outermost = true
+parentFits s i (Inside p) = ltb p i && eqb (sectionAt s p .task) (sectionAt s i .task)
+
+-- "A section has a task, a resource 0 to 15, a length 1 to 1,000,000 .., and a parent"
+unfoldable pub sectionFits : Sections → ℕ → Bool
+sectionFits s i =
+    ltb (sectionAt s i .task) (s .tasks) && leb (sectionAt s i .resource) 15
+    && leb 1 (sectionAt s i .length) && leb (sectionAt s i .length) 1000000
+    && parentFits s i (sectionAt s i .parent)
+
+-- "Resources rise strictly from parent to child"
+abbrev pub above : Sections → ℕ → Parent → Bool
+above s r Outermost = true
+above s r (Inside p) = ltb (sectionAt s p .resource) r
+
+-- c's length where it is a direct child of i
+unfoldable pub childLength : Sections → ℕ → ℕ → ℕ
+childLength s i c = if directlyIn (sectionAt s c .parent) (Inside i) then sectionAt s c .length else 0
+
+-- "children's lengths sum to at most the parent's"
+unfoldable pub childrenFit : Sections → ℕ → Bool
+childrenFit s i = leb (sumTo (s .count) (childLength s i)) (sectionAt s i .length)
+
+-- the first of two refusals
+abbrev pub orElse : Option ℕ → Option ℕ → Option ℕ
+orElse none later = later
+orElse (some n) later = some n
+
+-- "41 and 42 by section": what an earlier section is refused for, or else section i
+unfoldable pub sectionRefusal : Sections → ℕ → Option ℕ → Option ℕ
+sectionRefusal s i earlier =
+    orElse earlier
+    (firstOf (41 when not (sectionFits s i) or 42 when not (above s (sectionAt s i .resource) (sectionAt s i .parent)) or accepted))
+
+-- "40 counts; 41 a section's task, resource, length or parent; 42 resource not above its parent's; 43 children too long"
+unfoldable pub tableRefusal : Sections → Option ℕ
+tableRefusal s =
+    orElse (firstOf (40 when not (countsFit s) or accepted))
+    (orElse (foldTo (s .count) (sectionRefusal s) none) (firstOf (43 when not (allTo (s .count) (childrenFit s)) or accepted)))
+
+-- "44 no such task; 45 allowance not 1 to 1,000,000"
+unfoldable pub refusal : Sections → ℕ → ℕ → Option ℕ
+refusal s t allowance =
+    orElse (tableRefusal s)
+    (firstOf (44 when not (ltb t (s .tasks)) or 45 when not (leb 1 allowance && leb allowance 1000000) or accepted))

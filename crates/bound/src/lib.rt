@@ -1,0 +1,28 @@
+// The interference bound of 01 ("Interference bound"): its table of sections and its answer. No function yet;
+// what the bound is stands in specs/. Assumes nothing.
+
+// Where a section stands: in none, or directly in the section of that number.
+pub enum Parent {
+    Outermost,
+    Inside(u16),
+}
+
+pub struct Section {
+    pub task: u16,
+    pub resource: u16,
+    pub length: u32,
+    pub parent: Parent,
+}
+
+// Entries past `count` are not read.
+pub struct Sections {
+    pub tasks: u16,
+    pub count: u16,
+    pub section: [Section; 12],
+}
+
+// The bound and the weighings spent on it, or a refusal's number.
+pub enum Bounded {
+    Bound(u64, u32),
+    Refused(u16),
+}

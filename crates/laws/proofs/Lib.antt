@@ -1,0 +1,11 @@
+pub mod Cases
+pub mod Reflect
+pub mod Fold
+pub mod All
+pub mod Sum
+pub mod Count
+pub mod Lists
+pub mod Set
+pub mod Best
+pub mod Join
+pub mod Pigeonhole

@@ -1,0 +1,51 @@
+-- Laws of lists that the kit lacks: a store seen by cases, one store in two lists, and a list of one value. Assumes nothing.
+use mathlib.Core.Path.{_≡_, refl, sym, ap, _∙_}
+use mathlib.Core.List.{List, [], _∷_, map}
+use Prim.Native.Nat.{ℕ, zero, suc, _<_}
+use native.Mathlib.Omega.{arith}
+use lib.Dec.{eqb}
+use lib.ListN.{length, getD, set, replicate, length-replicate, getD-replicate}
+use lib.Seq.{getD-set-same, getD-set-other, ext-getD}
+use borrow.Author.Tests.{eqb-true, eqb-false}
+use Rattle.laws.specs.Tests.{if_then_else_}
+use Rattle.laws.proofs.Cases.{split}
+
+module _ {ℓ} {A : Type ℓ} where
+  -- after a store inside the list
+  pub getD-set : (l : List A) (i j : ℕ) (a d : A) → i < length l → getD (set l i a) j d ≡ (if eqb j i then a else getD l j d)
+  getD-set l i j a d h =
+      split
+      (eqb j i)
+      (λ e. rw (e, eqb-true j i e) (getD-set-same l i a d h))
+      (λ e. rw e (getD-set-other l i j a d (eqb-false j i e)))
+
+  -- lists of one length that agree at j agree there after one store in both
+  pub set-both : (l m : List A) (i j : ℕ) (a d : A) → length l ≡ length m → getD l j d ≡ getD m j d → getD (set l i a) j d ≡ getD (set m i a) j d
+  set-both [] [] i j a d e h = refl
+  set-both [] (y ∷ m) i j a d e h = absurd (omega arith)
+  set-both (x ∷ l) [] i j a d e h = absurd (omega arith)
+  set-both (x ∷ l) (y ∷ m) zero zero a d e h = refl
+  set-both (x ∷ l) (y ∷ m) zero (suc j) a d e h = h
+  set-both (x ∷ l) (y ∷ m) (suc i) zero a d e h = h
+  set-both (x ∷ l) (y ∷ m) (suc i) (suc j) a d e h = set-both l m i j a d (omega arith) h
+
+  -- a list of one value has it at every place, past the end too where that is what is found there
+  pub replicate-at : (n i : ℕ) (a : A) → getD (replicate n a) i a ≡ a
+  replicate-at zero i a = refl
+  replicate-at (suc n) zero a = refl
+  replicate-at (suc n) (suc i) a = replicate-at n i a
+
+  -- a list whose every place has one value is the list of that value
+  pub replicate-is : (l : List A) (a d : A) → ((i : ℕ) → i < length l → getD l i d ≡ a) → l ≡ replicate (length l) a
+  replicate-is l a d h =
+      ext-getD d l (replicate (length l) a) (sym (length-replicate (length l) a)) (λ i m. h i m ∙ sym (getD-replicate (length l) i a d m))
+
+  -- storing the one value changes nothing
+  pub set-replicate : (n i : ℕ) (a : A) → set (replicate n a) i a ≡ replicate n a
+  set-replicate zero i a = refl
+  set-replicate (suc n) zero a = refl
+  set-replicate (suc n) (suc i) a = ap (λ l. a ∷ l) (set-replicate n i a)
+
+  pub map-replicate {κ} : {B : Type κ} (f : A → B) (n : ℕ) (a : A) → map f (replicate n a) ≡ replicate n (f a)
+  map-replicate f zero a = refl
+  map-replicate f (suc n) a = ap (λ l. f a ∷ l) (map-replicate f n a)

@@ -1,0 +1,92 @@
+-- The whole text that `replay` prints for a file: document 01, "Program `replay`, standard input." Assumes nothing.
+use mathlib.Core.List.{List, [], _∷_, _++_}
+use mathlib.Core.Option.{Option, none, some}
+use Prim.Native.Nat.{ℕ, _+_}
+use lib.Dec.{ltb}
+use lib.ListN.{length}
+use Rattle.laws.specs.Tests.{if_then_else_}
+use Rattle.laws.specs.Loops.{joinTo}
+use Rattle.model.specs.declared.State.{State}
+use Rattle.model.specs.declared.Event.{Event}
+use Rattle.model.specs.declared.Answer.{Answer}
+use Rattle.model.specs.declared.Outcome.{Outcome}
+use Rattle.model.specs.State.{places, serverAt, taskAt, here}
+use Rattle.model.specs.Fresh.{unusable, freshState}
+use Rattle.model.specs.Step.{stepped}
+use Rattle.model.specs.Said.{said}
+use Rattle.trace.specs.declared.Record.{Record}
+use Rattle.trace.specs.declared.Record.the-variants.{Counts, Reservation, Happening}
+use Rattle.trace.specs.declared.Read.{Read}
+use Rattle.trace.specs.declared.Read.the-variants.{Got, End, Fault}
+use Rattle.trace.specs.Reading.{items}
+use Rattle.trace.specs.Order.{Stage, opening, entering, complete, placeRefusal, advanced, fileLimit}
+use Rattle.listing.specs.Text.{bytes, decimal, field, newline, spelled, phaseWord}
+
+-- "Per event: number from 1, answer word (`refused` for a refusal), number."
+unfoldable pub eventLine : ℕ → Answer → List ℕ
+eventLine n a = decimal n ++ bytes " " ++ spelled (said a .0) ++ field (said a .1) ++ newline
+
+-- "`stop`, its offset, refusal number"
+unfoldable pub stopLine : ℕ → ℕ → List ℕ
+stopLine offset n = bytes "stop" ++ field offset ++ field n ++ newline
+
+-- "per server `server`, number, state, budget, deadline, own, lent, spin"
+unfoldable pub serverLine : State → ℕ → List ℕ
+serverLine st s =
+    if here st s
+    then bytes "server" ++ field s ++ bytes " " ++ phaseWord (serverAt st s .phase) ++ field (serverAt st s .budget)
+    ++ field (serverAt st s .deadline) ++ field (serverAt st s .own) ++ field (serverAt st s .lent) ++ field (serverAt st s .spin) ++ newline
+    else []
+
+-- "per task `task`, number, executed"
+unfoldable pub taskLine : State → ℕ → List ℕ
+taskLine st t = if here st t then bytes "task" ++ field t ++ field (taskAt st t .executed) ++ newline else []
+
+-- "Then `end` and clock"
+unfoldable pub endLines : State → List ℕ
+endLines st = bytes "end" ++ field (st .clock) ++ newline ++ joinTo places (serverLine st) ++ joinTo places (taskLine st)
+
+-- where a replay stands: how much of the table is read, the state once all of it is, and the number of events so far
+pub record Progress : Type 0 where
+  pub stage : Stage
+  pub state : State
+  pub events : ℕ
+
+abbrev pub beginning : Progress
+beginning = record { stage = opening; state = unusable; events = 0 }
+
+-- the table complete: the fresh state
+abbrev pub started : Stage → Progress
+started opening = beginning
+started (entering tb k) = record { stage = entering tb k; state = unusable; events = 0 }
+started (complete tb) = record { stage = complete tb; state = freshState tb; events = 0 }
+
+abbrev pub continued : Progress → Event → Progress
+continued p e = record { stage = p .stage; state = stepped (p .state) e .state; events = p .events + 1 }
+
+-- the file's end: "A table cut off between records has the file's length as its offset."
+abbrev pub endText : Stage → State → ℕ → List ℕ
+endText opening st at = stopLine at 32
+endText (entering tb k) st at = stopLine at 32
+endText (complete tb) st at = endLines st
+
+-- a record, with the refusal that it meets where it stands: "A faulty record or table entry instead ends it"; `rest` is the text from there on
+abbrev pub recordText : (Progress → List ℕ) → Progress → ℕ → Option ℕ → Record → List ℕ
+recordText rest p at (some n) r = stopLine at n
+recordText rest p at none (Counts a b c) = rest (started (advanced (p .stage) (Counts a b c)))
+recordText rest p at none (Reservation e) = rest (started (advanced (p .stage) (Reservation e)))
+recordText rest p at none (Happening e) = eventLine (p .events + 1) (stepped (p .state) e .answer) ++ rest (continued p e)
+
+-- a reading: "Each is tested as it is read, so the file's earliest fault is told; lines already printed stay and no `end` follows."
+abbrev pub readText : (Progress → List ℕ) → Progress → ℕ → Read → List ℕ
+readText rest p at (Got r q) = recordText rest p at (placeRefusal (p .stage) r) r
+readText rest p at End = endText (p .stage) (p .state) at
+readText rest p at (Fault n) = stopLine at n
+
+unfoldable pub itemsText : List (ℕ × Read) → Progress → List ℕ
+itemsText [] p = []
+itemsText (i ∷ is) p = readText (itemsText is) p (i .0) (i .1)
+
+-- "33 file above 60,000 bytes (place 0, nothing else)"
+unfoldable pub listing : List ℕ → List ℕ
+listing file = if ltb fileLimit (length file) then stopLine 0 33 else itemsText (items file) beginning

@@ -1,0 +1,59 @@
+-- Every example holds, computed by the checker from the definitions: `marked` is the theorem of document 01's table. Assumes nothing.
+use mathlib.Core.Path.{_≡_, refl}
+use mathlib.Core.Bool.{Bool, true, _||_}
+use Prim.Native.Nat.{ℕ}
+use lib.Dec.{ltb, eqb}
+use Rattle.model.specs.declared.State.{State}
+use Rattle.model.specs.declared.Outcome.{Outcome}
+use Rattle.model.specs.declared.Event.the-variants.{Elapse}
+use Rattle.model.specs.declared.Answer.the-variants.{Refused}
+use Rattle.laws.specs.Tests.{firstOf}
+use Rattle.laws.specs.Loops.{countTo, allTo, sumTo, setTo, foldTo, betterOf, bestTo, joinTo}
+use Rattle.reordering.specs.Run.{after, log}
+use Rattle.model.specs.State.{here, present, declares, ownerOf, next, chainEnd, served, runningAt, runningFor, executorOf, executing, executes}
+use Rattle.model.specs.Sound.{ifHere, each, ifPresent, eachResource, sizesFit, reservationFits, declarationFits, deadlineFits, budgetFits, emptyRecharges, seated, heldAt, queuedAt, stackPlaceFits, stackFits, queuePlaceFits, queueFits, ownerFits, waitFits, stackAgrees, queueAgrees, entriesAgree, unownedUnqueued, usedDeclared, allDeclared, chainOpen, idleFits, executorFits, servedExecutes, accountsFit, loose, sound}
+use Rattle.model.specs.Fresh.{countsRefusal, entryRefusal, taskRefusal, freshRefusal, freshServerAt, freshTaskAt, freshState, freshOf}
+use Rattle.model.specs.RuleH.{budgetAt, chosen, executorBy, settledTask, settled}
+use Rattle.model.specs.Events.{serverBy, eachServer, wakes, wokenServer, woken, rests, restedServer, rested, slept, phased, ownTicks, lentTicks, spinTicks, runsOut, spentServer, tickedTask, taskBy, elapsed, rechargedPhase, recharged, nextInQueue, shifted, granted, joined, restedEnd, locked, freed, passed, unlocked}
+use Rattle.model.specs.Step.{crowded, affords, endsAt, topOf, stateAfter, stepped}
+use Rattle.bound.specs.Sets as sets
+use Rattle.bound.specs.Table as sections
+use Rattle.bound.specs.Interference as interference
+use Rattle.bound.specs.Answer as bounded
+use Rattle.trace.specs.Reading.{twoBytes, fourBytes, bodyLength, entryIn, recordIn, readFault, readAt, itemsFrom, items}
+use Rattle.listing.specs.Text.{bytes, digits, decimal, field, newline, spelled, phaseWord}
+use Rattle.listing.specs.Listing.{eventLine, stopLine, serverLine, taskLine, endLines, itemsText, listing}
+use Rattle.marked.specs.Example.{AllHold, _and_, nothing}
+use Rattle.marked.specs.Marked.{table}
+use Rattle.marked.specs.Further.{further}
+
+-- every sound state refuses such an elapse
+elapse-refused
+    : (n : ℕ) → (eqb n 0 || ltb 1000000 n) ≡ true → (st : State) → sound st ≡ true → stepped st (Elapse n) ≡ record { answer = Refused 10; state = st }
+unfolding stepped firstOf
+elapse-refused n e st h = rw (h, e)
+
+examples : AllHold table × AllHold further
+unfolding firstOf countTo allTo sumTo setTo foldTo betterOf bestTo joinTo after log here present declares ownerOf next chainEnd served runningAt runningFor
+    executorOf executing executes ifHere each ifPresent eachResource sizesFit reservationFits declarationFits deadlineFits budgetFits emptyRecharges
+    seated heldAt queuedAt stackPlaceFits stackFits queuePlaceFits queueFits ownerFits waitFits stackAgrees queueAgrees entriesAgree unownedUnqueued
+    usedDeclared allDeclared chainOpen idleFits executorFits servedExecutes accountsFit loose sound countsRefusal entryRefusal taskRefusal freshRefusal
+    freshServerAt freshTaskAt freshState freshOf budgetAt chosen executorBy settledTask settled serverBy eachServer wakes wokenServer woken rests
+    restedServer rested slept phased ownTicks lentTicks spinTicks runsOut spentServer tickedTask taskBy elapsed rechargedPhase recharged nextInQueue
+    shifted granted joined restedEnd locked freed passed unlocked crowded affords endsAt topOf stateAfter stepped sets.inEither sets.joined sets.notInBoth
+    sets.meets sections.around sections.outer sections.sectionFits sections.childLength sections.childrenFit sections.sectionRefusal sections.tableRefusal
+    sections.refusal interference.run interference.weighingIf interference.bestTurn interference.best interference.orderTurn interference.order
+    interference.blocker interference.blockers interference.ordering interference.sumTurn interference.sums interference.level interference.bound
+    bounded.answer twoBytes fourBytes bodyLength entryIn recordIn readFault readAt itemsFrom items bytes digits decimal field newline spelled phaseWord
+    eventLine stopLine serverLine taskLine endLines itemsText listing
+examples = (
+  refl and refl and refl and elapse-refused 0 refl and elapse-refused 1000001 refl and refl and refl and refl and refl and
+      refl and refl and refl and refl and refl and nothing,
+  refl and refl and refl and refl and refl and refl and refl and refl and refl and nothing,
+)
+
+pub marked : AllHold table
+marked = examples .0
+
+pub further-holds : AllHold further
+further-holds = examples .1

@@ -1,0 +1,4 @@
+pub mod Trace
+pub mod Example
+pub mod Marked
+pub mod Further

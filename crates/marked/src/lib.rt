@@ -1,0 +1,1 @@
+// No code: the marked examples of document 01, computed by the checker from the definitions.

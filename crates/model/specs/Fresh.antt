@@ -1,0 +1,100 @@
+-- The state from which a table starts, and its refusals 19 to 21: document 01, "Fresh", and the end of "Refusal numbers". Assumes nothing.
+use mathlib.Core.Bool.{Bool, not}
+use mathlib.Core.List.{List}
+use mathlib.Core.Option.{Option, none, some}
+use Prim.Native.Nat.{ℕ}
+use lib.Dec.{ltb}
+use lib.ListN.{getD, replicate}
+use Rattle.laws.specs.Tests.{if_then_else_, _when_or_, accepted, firstOf, _orElse_}
+use Rattle.laws.specs.Loops.{setTo, foldTo}
+use Rattle.model.specs.declared.TaskNo.{TaskNo}
+use Rattle.model.specs.declared.Phase.the-variants.{Idle}
+use Rattle.model.specs.declared.Mode.the-variants.{Suspended}
+use Rattle.model.specs.declared.Runs.the-variants.{Nowhere}
+use Rattle.model.specs.declared.Owner.the-variants.{Nobody}
+use Rattle.model.specs.declared.Server.{Server}
+use Rattle.model.specs.declared.Task.{Task}
+use Rattle.model.specs.declared.Resource.{Resource}
+use Rattle.model.specs.declared.State.{State}
+use Rattle.model.specs.declared.Entry.{Entry}
+use Rattle.model.specs.declared.Table.{Table}
+use Rattle.model.specs.declared.FreshAnswer.the-variants.{Made, Refused}
+use Rattle.model.specs.declared.FreshOutcome.{FreshOutcome}
+use Rattle.model.specs.State.{places}
+use Rattle.model.specs.Sound.{countsFit, quotaFits, declaredFits}
+
+abbrev pub noEntry : Entry
+noEntry = record { quota = 0; period = 0; declared = 0 }
+
+abbrev pub entryAt : Table → ℕ → Entry
+entryAt tb t = getD (tb .entry) t noEntry
+
+-- "19 .. counts"
+unfoldable pub countsRefusal : Table → Option ℕ
+countsRefusal tb = firstOf (19 when not (countsFit (tb .processors) (tb .tasks) (tb .resources)) or accepted)
+
+-- "20, 21 .. Q or P; declared resource absent", "20 before 21"
+unfoldable pub entryRefusal : ℕ → Entry → Option ℕ
+entryRefusal resources e =
+    firstOf (20 when not (quotaFits (e .quota) (e .period)) or 21 when not (declaredFits resources (e .declared)) or accepted)
+
+-- a task past the count is not tested
+unfoldable pub taskRefusal : Table → ℕ → Option ℕ → Option ℕ
+taskRefusal tb t before = before orElse (if ltb t (tb .tasks) then entryRefusal (tb .resources) (entryAt tb t) else none)
+
+-- "For fresh, 19, then tasks in order"
+unfoldable pub freshRefusal : Table → Option ℕ
+freshRefusal tb = foldTo places (taskRefusal tb) (countsRefusal tb)
+
+-- "numbers in entries past the counts 0, servers there Idle, tasks suspended"
+abbrev pub blankServer : Server
+blankServer = record { phase = Idle; budget = 0; deadline = 0; quota = 0; period = 0; own = 0; lent = 0; spin = 0 }
+
+abbrev pub blankTask : Task
+blankTask = record { mode = Suspended; runs = Nowhere; declared = 0; depth = 0; executed = 0; held = replicate places 0 }
+
+abbrev pub blankResource : Resource
+blankResource = record { owner = Nobody; waiting = 0; queue = replicate places (record { 0 = 0 }) }
+
+-- "all tasks suspended, servers Idle with budget Q and deadline 0, clock and accounts 0"
+abbrev pub freshServer : Entry → Server
+freshServer e = record { phase = Idle; budget = e .quota; deadline = 0; quota = e .quota; period = e .period; own = 0; lent = 0; spin = 0 }
+
+abbrev pub freshTask : Entry → Task
+freshTask e = record { mode = Suspended; runs = Nowhere; declared = e .declared; depth = 0; executed = 0; held = replicate places 0 }
+
+unfoldable pub freshServerAt : Table → ℕ → Server
+freshServerAt tb s = if ltb s (tb .tasks) then freshServer (entryAt tb s) else blankServer
+
+unfoldable pub freshTaskAt : Table → ℕ → Task
+freshTaskAt tb t = if ltb t (tb .tasks) then freshTask (entryAt tb t) else blankTask
+
+unfoldable pub freshState : Table → State
+freshState tb = record {
+  processors = tb .processors;
+  tasks = tb .tasks;
+  resources = tb .resources;
+  clock = 0;
+  server = setTo places (freshServerAt tb) (replicate places blankServer);
+  task = setTo places (freshTaskAt tb) (replicate places blankTask);
+  resource = replicate places blankResource;
+}
+
+-- "A fresh refusal returns no state of use: no processors, no tasks, no resources and the rest as in entries past the counts"
+abbrev pub unusable : State
+unusable = record {
+  processors = 0;
+  tasks = 0;
+  resources = 0;
+  clock = 0;
+  server = replicate places blankServer;
+  task = replicate places blankTask;
+  resource = replicate places blankResource;
+}
+
+abbrev pub freshBy : Option ℕ → Table → FreshOutcome
+freshBy none tb = record { answer = Made; state = freshState tb }
+freshBy (some n) tb = record { answer = Refused n; state = unusable }
+
+unfoldable pub freshOf : Table → FreshOutcome
+freshOf tb = freshBy (freshRefusal tb) tb

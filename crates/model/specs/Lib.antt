@@ -1,0 +1,10 @@
+pub mod State
+pub mod Sound
+pub mod Fresh
+pub mod RuleH
+pub mod Events
+pub mod Step
+pub mod Said
+pub mod Meter
+pub mod Groups
+pub mod Shape

@@ -1,0 +1,25 @@
+-- What the answers say in document 01's words and numbers. Assumes nothing.
+use Prim.Native.Nat.{ℕ}
+use Rattle.model.specs.declared.Answer.{Answer}
+use Rattle.model.specs.declared.Answer.the-variants.{Ok, Executes, Spins, Granted, Waits, Passed, Freed, Refused}
+use Rattle.model.specs.declared.FreshAnswer.{FreshAnswer}
+use Rattle.model.specs.declared.FreshAnswer.the-variants as fresh
+
+-- "answer word (`refused` for a refusal)"
+pub data Word : Type 0 where
+  ok executes spins granted waits passed freed refused : Word
+
+abbrev pub said : Answer → Word × ℕ
+said (Ok n) = (ok, n)
+said (Executes t) = (executes, t .0)
+said (Spins t) = (spins, t .0)
+said (Granted r) = (granted, r)
+said (Waits t) = (waits, t .0)
+said (Passed t) = (passed, t .0)
+said (Freed r) = (freed, r)
+said (Refused n) = (refused, n)
+
+-- fresh has no word of its own where it makes a state: it is told as `ok` and 0
+abbrev pub saidFresh : FreshAnswer → Word × ℕ
+saidFresh fresh.Made = (ok, 0)
+saidFresh (fresh.Refused n) = (refused, n)

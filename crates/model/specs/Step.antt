@@ -1,0 +1,106 @@
+-- One step: refusal, change, rule H, answer; and a run over a list of events. Document 01, "Events" (the answers) and "Refusal numbers".
+-- `free` is the machine of the same text without the tests for 1 and 8, through which the theorems on order go. Assumes nothing.
+use mathlib.Core.Bool.{Bool, true, false, not, _&&_, _||_}
+use mathlib.Core.List.{List}
+use mathlib.Core.Option.{Option, none, some}
+use Prim.Native.Nat.{ℕ, _+_, _-_}
+use lib.Dec.{ltb, leb, eqb}
+use lib.ListN.{getD}
+use Rattle.laws.specs.Tests.{if_then_else_, bit, _implies_, _when_or_, accepted, firstOf, without}
+use Rattle.laws.specs.Loops.{countTo}
+use Rattle.model.specs.declared.TaskNo.{TaskNo}
+use Rattle.model.specs.declared.State.{State}
+use Rattle.model.specs.declared.Event.{Event}
+use Rattle.model.specs.declared.Event.the-variants.{Wake, Suspend, Dispatch, Preempt, Elapse, Recharge, Lock, Unlock}
+use Rattle.model.specs.declared.Answer.{Answer}
+use Rattle.model.specs.declared.Answer.the-variants.{Ok, Executes, Spins, Granted, Waits, Passed, Freed, Refused}
+use Rattle.model.specs.declared.Outcome.{Outcome}
+use Rattle.model.specs.State.{places, serverAt, taskAt, resourceAt, here, present, declares, active, running, recharging, suspended, owned, ownerNo, placed, served, runningAt, executing, executes}
+use Rattle.model.specs.Sound.{each, clockLimit, sound}
+use Rattle.model.specs.RuleH.{settled}
+use Rattle.model.specs.Events.{wakes, rests, runsOut, firstWaiter, changed, acting}
+
+-- "no processor free"
+unfoldable pub crowded : State → Bool
+crowded st = leb (st .processors) (countTo places (runningAt st))
+
+-- Running server s has the budget for n ticks
+unfoldable pub affords : State → ℕ → ℕ → Bool
+affords st n s = runningAt st s implies leb n (serverAt st s .budget)
+
+-- "the owner's chain ends at t"
+unfoldable pub endsAt : State → ℕ → ℕ → Bool
+endsAt st t r = owned (resourceAt st r .owner) && eqb (served st (ownerNo (resourceAt st r .owner))) t
+
+-- the resource on top of t's stack
+unfoldable pub topOf : State → ℕ → ℕ
+topOf st t = getD (taskAt st t .held) (taskAt st t .depth - 1) 0
+
+-- the refusals of each event after 1, in their order: "ascending, save that unlock doesn't test 4"
+abbrev pub tests : State → Event → List (ℕ × Bool)
+tests st (Wake t) = 2 when not (here st (t .0)) or 5 when not (suspended (taskAt st (t .0) .mode)) or accepted
+tests st (Suspend t) = 2 when not (here st (t .0)) or 6 when not (executing st (t .0)) or accepted
+tests st (Dispatch s) =
+    2 when not (here st (s .0)) or
+    7 when not (active (serverAt st (s .0) .phase)) or
+    8 when crowded st or
+    accepted
+tests st (Preempt s) = 2 when not (here st (s .0)) or 9 when not (running (serverAt st (s .0) .phase)) or accepted
+tests st (Elapse n) =
+    10 when eqb n 0 || ltb 1000000 n or
+    11 when ltb clockLimit (st .clock + n) or
+    12 when not (each st (affords st n)) or
+    accepted
+tests st (Recharge s) =
+    2 when not (here st (s .0)) or
+    13 when not (recharging (serverAt st (s .0) .phase)) or
+    14 when ltb (st .clock) (serverAt st (s .0) .deadline) or
+    accepted
+tests st (Lock t r) =
+    2 when not (here st (t .0)) or
+    3 when not (present st r) or
+    4 when not (declares st (t .0) r) or
+    6 when not (executing st (t .0)) or
+    15 when eqb (ownerNo (resourceAt st r .owner)) (t .0) or
+    16 when endsAt st (t .0) r or
+    accepted
+tests st (Unlock t r) =
+    2 when not (here st (t .0)) or
+    3 when not (present st r) or
+    6 when not (executing st (t .0)) or
+    17 when not (eqb (ownerNo (resourceAt st r .owner)) (t .0)) or
+    18 when not (eqb (topOf st (t .0)) r) or
+    accepted
+
+-- the answer, from the state before and the state after
+abbrev pub answered : State → State → Event → Answer
+answered st after (Wake t) = Ok (countTo places (wakes st (t .0)))
+answered st after (Suspend t) = Ok (countTo places (rests st (t .0)))
+answered st after (Dispatch s) =
+    if executes after (s .0) then Executes (record { 0 = served after (s .0) }) else Spins (record { 0 = served after (s .0) })
+answered st after (Preempt s) = Ok (bit (executes st (s .0) && placed (taskAt after (served st (s .0)) .runs)))
+answered st after (Elapse n) = Ok (countTo places (runsOut st n))
+answered st after (Recharge s) = Ok (bit (active (serverAt after (s .0) .phase)))
+answered st after (Lock t r) =
+    if owned (resourceAt st r .owner) then Waits (record { 0 = served after (t .0) }) else Granted r
+answered st after (Unlock t r) =
+    if eqb (resourceAt st r .waiting) 0 then Freed r else Passed (record { 0 = firstWaiter (resourceAt st r) })
+
+-- the state after an event that is not refused
+unfoldable pub stateAfter : State → Event → State
+stateAfter st e = settled st (acting st e) (changed st e)
+
+-- "A step's refusal returns its number and the given state, unchanged."
+abbrev pub outcome : Option ℕ → State → Event → Outcome
+outcome none st e = record { answer = answered st (stateAfter st e) e; state = stateAfter st e }
+outcome (some n) st e = record { answer = Refused n; state = st }
+
+unfoldable pub stepped : State → Event → Outcome
+stepped st e = outcome (firstOf (1 when not (sound st) or tests st e)) st e
+
+unfoldable pub free : State → Event → Outcome
+free st e = outcome (firstOf (without 8 (tests st e))) st e
+
+-- a step as a pair, for runs over lists of events
+abbrev pub move : State → Event → Answer × State
+move st e = (stepped st e .answer, stepped st e .state)

@@ -1,0 +1,134 @@
+// The types of document 01: numbers, state, events, answers and tables. A state goes in by value and comes back by value.
+// Widths are chosen for size (ticks and accounts 32 bits, numbers the 16 bits of a trace's operands); to the specs each is a number.
+// There are sixteen places for tasks, servers and resources; entries past the counts are neither read nor changed.
+
+// The number of a task, the source's tau.
+pub struct TaskNo(pub u16);
+
+// The number of a server, the source's S.
+pub struct ServerNo(pub u16);
+
+pub enum Phase {
+    Idle,
+    Active,
+    Running,
+    Recharging,
+}
+
+// A reservation: `quota` is its budget Q every `period` P; `budget` is what remains. Ticks executing its own task, another's, spinning.
+pub struct Server {
+    pub phase: Phase,
+    pub budget: u32,
+    pub deadline: u32,
+    pub quota: u32,
+    pub period: u32,
+    pub own: u32,
+    pub lent: u32,
+    pub spin: u32,
+}
+
+pub enum Mode {
+    Suspended,
+    Ready,
+    // for the resource with this number
+    Waiting(u16),
+}
+
+// Where a task executes.
+pub enum Runs {
+    Nowhere,
+    In(ServerNo),
+}
+
+// `declared` has bit r for resource r; the resources it holds are the first `depth` places of `held`, the latest last.
+pub struct Task {
+    pub mode: Mode,
+    pub runs: Runs,
+    pub declared: u16,
+    pub depth: u16,
+    pub executed: u32,
+    pub held: [u16; 16],
+}
+
+pub enum Owner {
+    Nobody,
+    By(TaskNo),
+}
+
+// The tasks that wait for it are the first `waiting` places of `queue`, the first come first.
+pub struct Resource {
+    pub owner: Owner,
+    pub waiting: u16,
+    pub queue: [TaskNo; 16],
+}
+
+pub struct State {
+    pub processors: u16,
+    pub tasks: u16,
+    pub resources: u16,
+    pub clock: u32,
+    pub server: [Server; 16],
+    pub task: [Task; 16],
+    pub resource: [Resource; 16],
+}
+
+pub enum Event {
+    Wake(TaskNo),
+    Suspend(TaskNo),
+    Dispatch(ServerNo),
+    Preempt(ServerNo),
+    Elapse(u32),
+    Recharge(ServerNo),
+    Lock(TaskNo, u16),
+    Unlock(TaskNo, u16),
+}
+
+pub enum Answer {
+    Ok(u16),
+    Executes(TaskNo),
+    Spins(TaskNo),
+    Granted(u16),
+    Waits(TaskNo),
+    Passed(TaskNo),
+    Freed(u16),
+    Refused(u16),
+}
+
+// What a step gives back. The answer stands beside the state, since an enum holds no array.
+pub struct Outcome {
+    pub answer: Answer,
+    pub state: State,
+}
+
+// A task's line of the table from which a state starts.
+pub struct Entry {
+    pub quota: u32,
+    pub period: u32,
+    pub declared: u16,
+}
+
+pub struct Table {
+    pub processors: u16,
+    pub tasks: u16,
+    pub resources: u16,
+    pub entry: [Entry; 16],
+}
+
+pub enum FreshAnswer {
+    Made,
+    Refused(u16),
+}
+
+pub struct FreshOutcome {
+    pub answer: FreshAnswer,
+    pub state: State,
+}
+
+// A meter row: what a caller sees of one server.
+pub struct Row {
+    pub phase: Phase,
+    pub budget: u32,
+    pub own: u32,
+    pub lent: u32,
+    pub spin: u32,
+}

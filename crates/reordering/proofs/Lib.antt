@@ -1,0 +1,13 @@
+pub mod Swap
+pub mod Each
+pub mod Reorder
+pub mod Match
+pub mod Answer
+pub mod Local
+pub mod Delete
+pub mod Toy
+pub mod ToyLaws
+pub mod ToySeated
+pub mod ToyReorder
+pub mod ToyDelete
+pub mod Sample

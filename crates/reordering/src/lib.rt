@@ -1,0 +1,1 @@
+// No code: what this crate has stands in specs/ (definitions) and proofs/ (theorems).

@@ -1,0 +1,113 @@
+-- What reading a record at a place of a trace gives: document 01, "Trace and replay", its first two paragraphs. Assumes nothing.
+use mathlib.Core.Bool.{Bool, true, false, not, _&&_, _||_}
+use mathlib.Core.List.{List, [], _∷_}
+use mathlib.Core.Option.{Option, none, some}
+use Prim.Native.Nat.{ℕ, zero, suc, _+_, _-_, _*_}
+use lib.Dec.{ltb, leb, eqb}
+use lib.ListN.{length, getD}
+use Rattle.laws.specs.Tests.{if_then_else_, _when_or_, accepted, firstOf}
+use Rattle.model.specs.declared.TaskNo.{TaskNo}
+use Rattle.model.specs.declared.ServerNo.{ServerNo}
+use Rattle.model.specs.declared.Entry.{Entry}
+use Rattle.model.specs.declared.Event.{Event}
+use Rattle.model.specs.declared.Event.the-variants.{Wake, Suspend, Dispatch, Preempt, Elapse, Recharge, Lock, Unlock}
+use Rattle.model.specs.Said.{Word, ok, refused}
+use Rattle.trace.specs.declared.Place.{Place}
+use Rattle.trace.specs.declared.Record.{Record}
+use Rattle.trace.specs.declared.Record.the-variants.{Counts, Reservation, Happening}
+use Rattle.trace.specs.declared.Read.{Read}
+use Rattle.trace.specs.declared.Read.the-variants.{Got, End, Fault}
+
+-- "All numbers little-endian."
+unfoldable pub twoBytes : List ℕ → ℕ → ℕ
+twoBytes file at = getD file at 0 + 256 * getD file (at + 1) 0
+
+unfoldable pub fourBytes : List ℕ → ℕ → ℕ
+fourBytes file at = twoBytes file at + 65536 * twoBytes file (at + 2)
+
+-- the bytes of a kind's body, 0 for an unknown kind: "Operands are two bytes each, elapse's four."
+unfoldable pub bodyLength : ℕ → ℕ
+bodyLength kind =
+    if (leb 1 kind && leb kind 4) || eqb kind 6
+    then 2
+    else if eqb kind 5 || (leb 7 kind && leb kind 8)
+    then 4
+    else if eqb kind 16
+    then 6
+    else if eqb kind 17
+    then 10
+    else 0
+
+abbrev pub task : List ℕ → ℕ → TaskNo
+task file at = record { 0 = twoBytes file at }
+
+abbrev pub server : List ℕ → ℕ → ServerNo
+server file at = record { 0 = twoBytes file at }
+
+-- "Kind 17: Q, P (four each), declared set (two, bit r for resource r)."
+unfoldable pub entryIn : List ℕ → ℕ → Entry
+entryIn file at = record { quota = fourBytes file at; period = fourBytes file (at + 4); declared = twoBytes file (at + 8) }
+
+-- "Kinds 1 to 8: wake, suspend, dispatch, preempt, elapse, recharge, lock, unlock." (for a known kind, with its body at `at`)
+unfoldable pub recordIn : ℕ → List ℕ → ℕ → Record
+recordIn kind file at =
+    if eqb kind 1
+    then Happening (Wake (task file at))
+    else if eqb kind 2
+    then Happening (Suspend (task file at))
+    else if eqb kind 3
+    then Happening (Dispatch (server file at))
+    else if eqb kind 4
+    then Happening (Preempt (server file at))
+    else if eqb kind 5
+    then Happening (Elapse (fourBytes file at))
+    else if eqb kind 6
+    then Happening (Recharge (server file at))
+    else if eqb kind 7
+    then Happening (Lock (task file at) (twoBytes file (at + 2)))
+    else if eqb kind 8
+    then Happening (Unlock (task file at) (twoBytes file (at + 2)))
+    else if eqb kind 16
+    then Counts (twoBytes file at) (twoBytes file (at + 2)) (twoBytes file (at + 4))
+    else Reservation (entryIn file at)
+
+-- "30 record cut short; 31 length below 2, unknown kind, or wrong length for it", "Length below 2 is told before a cut body, a cut body before
+-- the kind."
+unfoldable pub readFault : List ℕ → ℕ → Option ℕ
+readFault file at =
+    firstOf (
+    30 when ltb (length file - at) 2 or
+    31 when ltb (twoBytes file at) 2 or
+    30 when ltb (length file - at - 2) (twoBytes file at) or
+    31 when eqb (bodyLength (twoBytes file (at + 2))) 0 or
+    31 when not (eqb (bodyLength (twoBytes file (at + 2)) + 2) (twoBytes file at)) or
+    accepted
+    )
+
+-- "Record: two-byte length of what follows, two-byte kind, body.", "Reading a record gives back the record and the moved place."
+abbrev pub readBy : Option ℕ → List ℕ → ℕ → Read
+readBy none file at = Got (recordIn (twoBytes file (at + 2)) file (at + 4)) (record { at = at + 2 + twoBytes file at })
+readBy (some n) file at = Fault n
+
+unfoldable pub readAt : List ℕ → ℕ → Read
+readAt file at = if leb (length file) at then End else readBy (readFault file at) file at
+
+-- what reading says: a record (told as `ok` and its moved place), the file's end (`ok` and 0), or the refusal's number
+abbrev pub saidRead : Read → Word × ℕ
+saidRead (Got r p) = (ok, p .at)
+saidRead End = (ok, 0)
+saidRead (Fault n) = (refused, n)
+
+-- what a file holds from a place on: each reading with its offset, up to the file's end or its first fault. A record is 4 bytes or longer,
+-- so that the file's length is fuel enough (law `items-is`).
+abbrev pub itemsAfter : (ℕ → List (ℕ × Read)) → Read → List (ℕ × Read)
+itemsAfter rest (Got r p) = rest (p .at)
+itemsAfter rest End = []
+itemsAfter rest (Fault n) = []
+
+unfoldable pub itemsFrom : ℕ → List ℕ → ℕ → List (ℕ × Read)
+itemsFrom zero file at = []
+itemsFrom (suc left) file at = (at, readAt file at) ∷ itemsAfter (itemsFrom left file) (readAt file at)
+
+unfoldable pub items : List ℕ → List (ℕ × Read)
+items file = itemsFrom (suc (length file)) file 0
