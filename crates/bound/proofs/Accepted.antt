@@ -8,7 +8,7 @@ use Prim.Native.Nat.{ℕ, zero, suc, _<_, _≤_}
 use native.Mathlib.Omega.{arith}
 use lib.Dec.{ltb}
 use borrow.Author.Tests.{ltb-true, leb-true, eqb-true}
-use Rattle.laws.specs.Tests.{firstOf, accepted, _when_or_}
+use Rattle.laws.specs.Tests.{firstOf, accepted, _when_or_, _orElse_}
 use Rattle.laws.specs.Loops.{foldTo, allTo, sumTo}
 use Rattle.laws.proofs.Cases.{and-left, and-right, none-some}
 use Rattle.laws.proofs.Reflect.{reflects-self, reflects-le, reflects-lt, reflects-and}
@@ -17,7 +17,7 @@ use Rattle.laws.proofs.All.{all-at}
 use Rattle.bound.specs.declared.Parent.{Parent}
 use Rattle.bound.specs.declared.Parent.the-variants.{Outermost, Inside}
 use Rattle.bound.specs.declared.Sections.{Sections}
-use Rattle.bound.specs.Table.{sectionAt, countsFit, parentFits, sectionFits, above, childLength, childrenFit, orElse, sectionRefusal, tableRefusal}
+use Rattle.bound.specs.Table.{sectionAt, countsFit, parentFits, sectionFits, above, childLength, childrenFit, sectionRefusal, tableRefusal}
 
 pub record Accepted (s : Sections) : Type 0 where
   pub tasks-least : 1 ≤ s .tasks
@@ -33,11 +33,11 @@ pub record Accepted (s : Sections) : Type 0 where
   pub children-most : (i : ℕ) → i < s .count → sumTo (s .count) (childLength s i) ≤ sectionAt s i .length
 
 -- neither of two refusals
-pub first-none : (a b : Option ℕ) → orElse a b ≡ none → a ≡ none
-first-none none b e = refl
-first-none (some n) b e = e
+pub earlier-none : (a b : Option ℕ) → (a orElse b) ≡ none → a ≡ none
+earlier-none none b e = refl
+earlier-none (some n) b e = e
 
-pub later-none : (a b : Option ℕ) → orElse a b ≡ none → b ≡ none
+pub later-none : (a b : Option ℕ) → (a orElse b) ≡ none → b ≡ none
 later-none none b e = e
 later-none (some n) b e = none-some (sym e)
 
@@ -61,7 +61,7 @@ module _ (s : Sections) where
   section-passed (suc n) i l e =
       ⊎-elim
       (λ (q : i ≡ n). rw q (later-none (foldTo n (sectionRefusal s) none) (firstOf (tests n)) e))
-      (λ (m : i < n). section-passed n i m (first-none (foldTo n (sectionRefusal s) none) (firstOf (tests n)) e))
+      (λ (m : i < n). section-passed n i m (earlier-none (foldTo n (sectionRefusal s) none) (firstOf (tests n)) e))
       (last-or-below i n l)
 
   parent-fits : (i p : ℕ) (o : Parent) → parentFits s i o ≡ true → o ≡ Inside p → (p < i) × (sectionAt s p .task ≡ sectionAt s i .task)
@@ -75,21 +75,32 @@ module _ (s : Sections) where
   is-above r p (Inside k) h e = let q : k ≡ p = cc in rw (← q) (ltb-true _ _ h)
 
   -- 41 as facts
-  fits : (i : ℕ) → sectionFits s i ≡ true → ((((sectionAt s i .task < s .tasks) × (sectionAt s i .resource ≤ 15)) × (1 ≤ sectionAt s i .length)) × (sectionAt s i .length ≤ 1000000)) × (parentFits s i (sectionAt s i .parent) ≡ true)
+  fits
+      : (i : ℕ) → sectionFits s i ≡ true
+      → ((((sectionAt s i .task < s .tasks) × (sectionAt s i .resource ≤ 15)) × (1 ≤ sectionAt s i .length)) × (sectionAt s i .length ≤ 1000000))
+      × (parentFits s i (sectionAt s i .parent) ≡ true)
   unfolding sectionFits
-  fits i = reflects-and (reflects-and (reflects-and (reflects-and (reflects-lt _ _) (reflects-le _ _)) (reflects-le _ _)) (reflects-le _ _)) (reflects-self _) .holds
+  fits i =
+      reflects-and
+      (reflects-and (reflects-and (reflects-and (reflects-lt _ _) (reflects-le _ _)) (reflects-le _ _)) (reflects-le _ _))
+      (reflects-self _) .holds
+
+  counts : countsFit s ≡ true → ((1 ≤ s .tasks) × (s .tasks ≤ 6)) × (s .count ≤ 12)
+  counts = reflects-and (reflects-and (reflects-le _ _) (reflects-le _ _)) (reflects-le _ _) .holds
 
   pub accepted-table : tableRefusal s ≡ none → Accepted s
   unfolding tableRefusal childrenFit
   accepted-table e =
-      let counts = reflects-and (reflects-and (reflects-le 1 (s .tasks)) (reflects-le (s .tasks) 6)) (reflects-le (s .count) 12) .holds (passed 40 (countsFit s) [] (first-none _ _ e) .0) in
+      let size = counts (passed 40 (countsFit s) [] (earlier-none _ _ e) .0) in
       let rest = later-none (firstOf ((40, not (countsFit s)) ∷ [])) _ e in
-      let free : (i : ℕ) → i < s .count → (sectionFits s i ≡ true) × (firstOf (after-41 i) ≡ none) = λ i l. passed 41 (sectionFits s i) (after-41 i) (section-passed (s .count) i l (first-none _ _ rest)) in
-      let children : allTo (s .count) (childrenFit s) ≡ true = passed 43 _ [] (later-none (foldTo (s .count) (sectionRefusal s) none) _ rest) .0 in
+      let free : (i : ℕ) → i < s .count → (sectionFits s i ≡ true) × (firstOf (after-41 i) ≡ none) =
+      λ i l. passed 41 (sectionFits s i) (after-41 i) (section-passed (s .count) i l (earlier-none _ _ rest)) in
+      let children : allTo (s .count) (childrenFit s) ≡ true =
+      passed 43 _ [] (later-none (foldTo (s .count) (sectionRefusal s) none) _ rest) .0 in
       record {
-        tasks-least = counts .0 .0;
-        tasks-most = counts .0 .1;
-        count-most = counts .1;
+        tasks-least = size .0 .0;
+        tasks-most = size .0 .1;
+        count-most = size .1;
         task-there = λ i l. fits i (free i l .0) .0 .0 .0 .0;
         resource-most = λ i l. fits i (free i l .0) .0 .0 .0 .1;
         length-least = λ i l. fits i (free i l .0) .0 .0 .1;

@@ -8,17 +8,17 @@ use Prim.Native.Nat.{ℕ, _<_}
 use native.Mathlib.Omega.{arith}
 use lib.Dec.{ltb}
 use borrow.Author.Tests.{ltb-true, lt-ltb}
-use Rattle.laws.specs.Tests.{firstOf}
+use Rattle.laws.specs.Tests.{firstOf, _orElse_}
 use Rattle.laws.proofs.Cases.{split, none-some}
 use Rattle.laws.proofs.Fold.{fold-keeps}
 use Rattle.bound.specs.declared.Bounded.the-variants.{Bound, Refused}
 use Rattle.bound.specs.declared.Parent.the-variants.{Outermost}
 use Rattle.bound.specs.declared.Sections.{Sections}
 use Rattle.bound.specs.Sets.{noTask, noResource, with}
-use Rattle.bound.specs.Table.{orElse, sectionRefusal, tableRefusal, refusal}
+use Rattle.bound.specs.Table.{sectionRefusal, tableRefusal, refusal}
 use Rattle.bound.specs.Interference.{Weighed, bound}
 use Rattle.bound.specs.Answer.{within, unlessRefused, answer}
-use Rattle.bound.proofs.Accepted.{Accepted, first-none, later-none, passed, accepted-table}
+use Rattle.bound.proofs.Accepted.{Accepted, earlier-none, later-none, passed, accepted-table}
 use Rattle.bound.proofs.Unfolded.{interference, bound-is}
 
 module _ (s : Sections) (t allowance : ℕ) where
@@ -28,7 +28,7 @@ module _ (s : Sections) (t allowance : ℕ) where
 
   table-accepted : refusal s t allowance ≡ none → Accepted s
   unfolding refusal
-  table-accepted e = accepted-table s (first-none (tableRefusal s) _ e)
+  table-accepted e = accepted-table s (earlier-none (tableRefusal s) _ e)
 
   -- accepted: the bound, from the calculation as 01 says it, within the allowance
   pub answer-is : refusal s t allowance ≡ none → answer s t allowance ≡ within allowance (interference s (with noTask t) t Outermost noResource)
@@ -41,7 +41,7 @@ unfolding firstOf
 other-first n m true ts d h e = d (cc)
 other-first n m false ts d h e = h e
 
-other-later : (n : ℕ) (a b : Option ℕ) → (a ≡ some n → ⊥) → (b ≡ some n → ⊥) → orElse a b ≡ some n → ⊥
+other-later : (n : ℕ) (a b : Option ℕ) → (a ≡ some n → ⊥) → (b ≡ some n → ⊥) → (a orElse b) ≡ some n → ⊥
 other-later n none b f g e = g e
 other-later n (some m) b f g e = f e
 
@@ -57,17 +57,28 @@ module _ (s : Sections) (t allowance : ℕ) where
       other-later 46 (tableRefusal s) _
       (other-later 46 _ _ (other-first 46 40 _ [] (λ e. omega arith) (none-told 46))
       (other-later 46 _ _
-      (fold-keeps (λ o. o ≡ some 46 → ⊥) (sectionRefusal s) (s .count) (λ i l o h. other-later 46 o _ h (other-first 46 41 _ _ (λ e. omega arith) (other-first 46 42 _ [] (λ e. omega arith) (none-told 46)))) none (λ e. none-some e))
+      (fold-keeps (λ o. o ≡ some 46 → ⊥) (sectionRefusal s) (s .count)
+      (λ i l o h. other-later 46 o _ h (other-first 46 41 _ _ (λ e. omega arith) (other-first 46 42 _ [] (λ e. omega arith) (none-told 46))))
+      none (λ e. none-some e))
       (other-first 46 43 _ [] (λ e. omega arith) (none-told 46))))
       (other-first 46 44 _ _ (λ e. omega arith) (other-first 46 45 _ [] (λ e. omega arith) (none-told 46)))
 
 -- the answer is 46 where nothing is refused and the weighings exceed the allowance
-told-46 : (o : Option ℕ) (allowance : ℕ) (w : Weighed) → (o ≡ some 46 → ⊥) → unlessRefused o (within allowance w) ≡ Refused 46 → (o ≡ none) × (allowance < w .weighings)
-told-46 none allowance w h e =
-    (refl, split (ltb allowance (w .weighings)) (ltb-true _ _) (λ n. absurd (let q : Bound (w .value) (w .weighings) ≡ Refused 46 = rw n at e in let z : _≡_ {A = ℕ} 0 1 = cc in omega arith)))
+told-46
+    : (o : Option ℕ) (allowance : ℕ) (w : Weighed) → (o ≡ some 46 → ⊥)
+    → unlessRefused o (within allowance w) ≡ Refused 46 → (o ≡ none) × (allowance < w .weighings)
+told-46 none allowance w h e = (
+  refl,
+  split (ltb allowance (w .weighings)) (ltb-true _ _) (λ n.
+      let q : Bound (w .value) (w .weighings) ≡ Refused 46 = rw n at e in
+      let z : _≡_ {A = ℕ} 0 1 = cc in
+      absurd (omega arith)),
+)
 told-46 (some n) allowance w h e = absurd (h (cc))
 
 -- "46 exactly when the weighings exceed the allowance"
-pub spent-exactly : (s : Sections) (t allowance : ℕ) → (answer s t allowance ≡ Refused 46) ↔ ((refusal s t allowance ≡ none) × (allowance < bound s t .weighings))
+pub spent-exactly
+    : (s : Sections) (t allowance : ℕ)
+    → (answer s t allowance ≡ Refused 46) ↔ ((refusal s t allowance ≡ none) × (allowance < bound s t .weighings))
 unfolding answer
 spent-exactly s t allowance = (told-46 (refusal s t allowance) allowance (bound s t) (not-46 s t allowance), λ h. rw (h .0, lt-ltb _ _ (h .1)))

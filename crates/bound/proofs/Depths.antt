@@ -22,7 +22,9 @@ nesting s Outermost = s .count
 nesting s (Inside p) = s .count - suc p
 
 -- a child leaves less to nest than its parent
-child-less : (s : Sections) → Accepted s → (c : ℕ) (p o : Parent) → c < s .count → sectionAt s c .parent ≡ o → directlyIn o p ≡ true → nesting s (Inside c) < nesting s p
+child-less
+    : (s : Sections) → Accepted s → (c : ℕ) (p o : Parent)
+    → c < s .count → sectionAt s c .parent ≡ o → directlyIn o p ≡ true → nesting s (Inside c) < nesting s p
 child-less s good c Outermost o l e h = omega arith
 child-less s good c (Inside p) Outermost l e h = absurd (let z : _≡_ {A = ℕ} 0 1 = cc in omega arith)
 child-less s good c (Inside p) (Inside i) l e h = omega (arith, eqb-true i p h, good .parent-earlier c i l e)
@@ -38,11 +40,15 @@ module _ (s : Sections) (t : ℕ) where
   sum-turn-same f g h k p r c v o same inner =
       split
       (isIn s t p c)
-      (λ e. rw (same (sectionAt s c .resource) (with r (sectionAt s c .resource)), inner (and-right (eqb (sectionAt s c .task) t) _ e) (with r (sectionAt s c .resource))))
+      (λ e.
+      let wider = with r (sectionAt s c .resource) in
+      rw (same (sectionAt s c .resource) wider, inner (and-right (eqb (sectionAt s c .task) t) _ e) wider))
       (λ e. rw e)
 
   -- no ordering value is anything
-  pub sums-none : (ordered : ℕ → Resources → Weighed) (depth : ℕ) (p : Parent) (r : Resources) → ((q : ℕ) (wider : Resources) → ordered q wider ≡ nothing) → sums depth ordered s t p r ≡ nothing
+  pub sums-none
+      : (ordered : ℕ → Resources → Weighed) (depth : ℕ) (p : Parent) (r : Resources)
+      → ((q : ℕ) (wider : Resources) → ordered q wider ≡ nothing) → sums depth ordered s t p r ≡ nothing
   unfolding sums sumTurn
   sums-none ordered zero p r e = refl
   sums-none ordered (suc depth) p r e =
@@ -55,7 +61,9 @@ module _ (s : Sections) (t : ℕ) where
 
   module _ (good : Accepted s) (ordered : ℕ → Resources → Weighed) where
     -- nothing is left to nest
-    childless : (same : Parent → Resources → Weighed) (p : Parent) (r : Resources) (c v : ℕ) (o : Option ℕ) → c < s .count → nesting s p ≡ 0 → sumTurn ordered same s t p r c v o ≡ weighed v none 0
+    childless
+        : (same : Parent → Resources → Weighed) (p : Parent) (r : Resources) (c v : ℕ) (o : Option ℕ)
+        → c < s .count → nesting s p ≡ 0 → sumTurn ordered same s t p r c v o ≡ weighed v none 0
     unfolding sumTurn
     childless same p r c v o l h =
         split

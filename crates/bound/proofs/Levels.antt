@@ -66,7 +66,9 @@ module _ (s : Sections) (good : Accepted s) where
 
   blockers-found : (q : ℕ) (b : Tasks) → Found b (blockers s q b)
   unfolding blockers
-  blockers-found q b = fold-keeps (Found b) (blocker s q b) (s .count) (found-turn q b) noTask (record { six = refl; each = λ x e. holds-fails e (replicate-at 6 x false) })
+  blockers-found q b =
+      fold-keeps (Found b) (blocker s q b) (s .count) (found-turn q b) noTask
+      (record { six = refl; each = λ x e. holds-fails e (replicate-at 6 x false) })
 
   pub blockers-six : (q : ℕ) (b : Tasks) → length (blockers s q b) ≡ 6
   blockers-six q b = blockers-found q b .six
@@ -90,11 +92,15 @@ module _ (s : Sections) (good : Accepted s) where
       let found = blockers-found q b in
       order-more s q b (weighing f s) m (blockers s q b) entry (found .six) (omega arith)
       ∙ sym (order-more s q b (weighing f s) n (blockers s q b) entry (found .six) (omega arith))
-      ∙ order-same s q b (weighing f s) (weighing g s) n (blockers s q b) entry (found .six) (λ i l h hold. weighing-same f g b hold i (λ p r. e _ p r (found .each _ h)))
+      ∙ order-same s q b (weighing f s) (weighing g s) n (blockers s q b) entry (found .six)
+      (λ i l h hold. weighing-same f g b hold i (λ p r. e _ p r (found .each _ h)))
 
-  level-step : (left : ℕ) (b : Tasks) (t : ℕ) (p : Parent) (r : Resources) → length b ≡ 6 → outside s b ≤ left → level left s b t p r ≡ level (suc left) s b t p r
+  level-step
+      : (left : ℕ) (b : Tasks) (t : ℕ) (p : Parent) (r : Resources) → length b ≡ 6 → outside s b ≤ left
+      → level left s b t p r ≡ level (suc left) s b t p r
   unfolding level ordering
-  level-step zero b t p r six h = sym (sums-none s t _ 12 p r (λ q entry. order-none s q b _ 1 (blockers s q b) entry (omega (arith, blockers-most q b))))
+  level-step zero b t p r six h =
+      sym (sums-none s t _ 12 p r (λ q entry. order-none s q b _ 1 (blockers s q b) entry (omega (arith, blockers-most q b))))
   level-step (suc left) b t p r six h =
       ap (λ ordered. sums 12 ordered s t p r)
       (fun-ext (λ q. fun-ext (λ entry.
@@ -102,5 +108,7 @@ module _ (s : Sections) (good : Accepted s) where
       (λ x o w e. level-step left (with b x) x o w (length-set b x true ∙ six) (omega (arith, outside-with s b x six (outside-six b x e) e))))))
 
   -- `left` at least the tasks outside B
-  pub level-more : (left : ℕ) (b : Tasks) (t : ℕ) (p : Parent) (r : Resources) → length b ≡ 6 → outside s b ≤ left → level left s b t p r ≡ level (outside s b) s b t p r
+  pub level-more
+      : (left : ℕ) (b : Tasks) (t : ℕ) (p : Parent) (r : Resources) → length b ≡ 6 → outside s b ≤ left
+      → level left s b t p r ≡ level (outside s b) s b t p r
   level-more left b t p r six = enough (λ k. level k s b t p r) (outside s b) (λ k. level-step k b t p r six) left

@@ -26,7 +26,9 @@ remain xs = countTo 6 (has xs)
 
 -- what is in the set without x was in the set
 without-has : (xs : Tasks) (x y : ℕ) → x < length xs → has (without xs x) y ≡ true → has xs y ≡ true
-without-has xs x y l e = split (eqb y x) (λ q. holds-fails e (getD-set xs x y false false l ∙ rw q)) (λ q. sym (getD-set xs x y false false l ∙ rw q) ∙ e)
+without-has xs x y l e =
+    let now = getD-set xs x y false false l in
+    split (eqb y x) (λ q. holds-fails e (now ∙ rw q)) (λ q. sym (now ∙ rw q) ∙ e)
 
 -- one fewer remains
 pub remain-without : (xs : Tasks) (x : ℕ) → length xs ≡ 6 → x < 6 → has xs x ≡ true → remain (without xs x) + 1 ≡ remain xs
@@ -35,7 +37,9 @@ remain-without xs x six l e =
     omega (arith, ap bit e, count-but-one 6 x (has (without xs x)) (has xs) l (λ j m d. getD-set-other xs x j false false d))
 
 -- a task's best depends on how its own sections weigh
-best-same : (f g : ℕ → Weighed) (s : Sections) (q x : ℕ) → ((i : ℕ) → i < s .count → sectionAt s i .task ≡ x → f i ≡ g i) → best f s q x ≡ best g s q x
+best-same
+    : (f g : ℕ → Weighed) (s : Sections) (q x : ℕ)
+    → ((i : ℕ) → i < s .count → sectionAt s i .task ≡ x → f i ≡ g i) → best f s q x ≡ best g s q x
 unfolding best bestTurn
 best-same f g s q x e =
     run-same _ _ (s .count) 0 0 none
@@ -66,7 +70,9 @@ module _ (s : Sections) (q : ℕ) (b : Tasks) where
       (λ e. rw e)
 
   -- no task remains
-  pub order-none : (weigh : Weighing) (left : ℕ) (remaining : Tasks) (held : Resources) → remain remaining ≡ 0 → order left weigh s q b remaining held ≡ nothing
+  pub order-none
+      : (weigh : Weighing) (left : ℕ) (remaining : Tasks) (held : Resources)
+      → remain remaining ≡ 0 → order left weigh s q b remaining held ≡ nothing
   unfolding order
   order-none weigh zero remaining held e = refl
   order-none weigh (suc left) remaining held e =
@@ -105,4 +111,5 @@ module _ (s : Sections) (q : ℕ) (b : Tasks) where
   -- `left` at least the tasks that remain
   pub order-more : (weigh : Weighing) (left : ℕ) (remaining : Tasks) (held : Resources) → length remaining ≡ 6 → remain remaining ≤ left
       → order left weigh s q b remaining held ≡ order (remain remaining) weigh s q b remaining held
-  order-more weigh left remaining held six = enough (λ k. order k weigh s q b remaining held) (remain remaining) (λ k. order-step weigh k remaining held six) left
+  order-more weigh left remaining held six =
+      enough (λ k. order k weigh s q b remaining held) (remain remaining) (λ k. order-step weigh k remaining held six) left

@@ -39,12 +39,14 @@ pub order-is : (s : Sections) (q : ℕ) (b remaining : Tasks) (held : Resources)
     → orders s q b remaining held ≡ run (orderTurn (weighing (interference s) s) (orders s q) s q b remaining held) 6 0 0 none
 unfolding orders order
 order-is s q b remaining held six =
-    sym (order-more s q b (weighing (interference s) s) (suc (remain remaining)) remaining held six (omega arith))
+    let weigh = weighing (interference s) s in
+    sym (order-more s q b weigh (suc (remain remaining)) remaining held six (omega arith))
     ∙ run-same _ _ 6 0 0 none
     (λ x l v o.
-    turn-same s q b (weighing (interference s) s) (weighing (interference s) s) (order (remain remaining) (weighing (interference s) s) s q) (orders s q) remaining held x v o
+    turn-same s q b weigh weigh (order (remain remaining) weigh s q) (orders s q) remaining held x v o
     (λ e i m t. refl)
-    (λ e hold. order-more s q b (weighing (interference s) s) (remain remaining) (without remaining x) hold (length-set remaining x false ∙ six) (omega (arith, remain-without remaining x six (omega arith) e))))
+    (λ e hold.
+    order-more s q b weigh (remain remaining) (without remaining x) hold (length-set remaining x false ∙ six) (omega (arith, remain-without remaining x six (omega arith) e))))
 
 nesting-most : (s : Sections) → Accepted s → (p : Parent) → nesting s p ≤ 12
 nesting-most s good Outermost = good .count-most
@@ -66,7 +68,9 @@ module _ (s : Sections) (good : Accepted s) (b : Tasks) (six : length b ≡ 6) w
   unfolding interference orders ordering
   value-is q entry =
       ordering-same s good (level (outside s b) s) (interference s) (outside s b) (outside s b) b q entry (omega arith) (omega arith)
-      (λ x p r e. level-more s good (outside s b) (with b x) x p r (length-set b x true ∙ six) (omega (arith, outside-with s b x six (outside-six s good b x e) e)))
+      (λ x p r e.
+      level-more s good (outside s b) (with b x) x p r (length-set b x true ∙ six)
+      (omega (arith, outside-with s b x six (outside-six s good b x e) e)))
       ∙ order-more s q b (weighing (interference s) s) (outside s b) (blockers s q b) entry (blockers-six s good q b) (blockers-most s good q b)
 
   -- "sum over the sections c: the ordering value, plus the same calculation on c's direct children, both with R and c's resource"

@@ -2,10 +2,10 @@
 -- Entries past `count` are not read. Assumes nothing.
 use Prim.Native.Nat.{ℕ, zero, suc}
 use mathlib.Core.Bool.{Bool, true, false, not, _&&_}
-use mathlib.Core.Option.{Option, none, some}
+use mathlib.Core.Option.{Option, none}
 use lib.Dec.{ltb, leb, eqb}
 use lib.ListN.{getD}
-use Rattle.laws.specs.Tests.{if_then_else_, accepted, _when_or_, firstOf}
+use Rattle.laws.specs.Tests.{if_then_else_, accepted, _when_or_, firstOf, _orElse_}
 use Rattle.laws.specs.Loops.{allTo, sumTo, foldTo}
 use Rattle.bound.specs.declared.Parent.{Parent}
 use Rattle.bound.specs.declared.Parent.the-variants.{Outermost, Inside}
@@ -65,25 +65,21 @@ childLength s i c = if directlyIn (sectionAt s c .parent) (Inside i) then sectio
 unfoldable pub childrenFit : Sections → ℕ → Bool
 childrenFit s i = leb (sumTo (s .count) (childLength s i)) (sectionAt s i .length)
 
--- the first of two refusals
-abbrev pub orElse : Option ℕ → Option ℕ → Option ℕ
-orElse none later = later
-orElse (some n) later = some n
-
 -- "41 and 42 by section": what an earlier section is refused for, or else section i
 unfoldable pub sectionRefusal : Sections → ℕ → Option ℕ → Option ℕ
 sectionRefusal s i earlier =
-    orElse earlier
-    (firstOf (41 when not (sectionFits s i) or 42 when not (above s (sectionAt s i .resource) (sectionAt s i .parent)) or accepted))
+    earlier
+    orElse firstOf (41 when not (sectionFits s i) or 42 when not (above s (sectionAt s i .resource) (sectionAt s i .parent)) or accepted)
 
 -- "40 counts; 41 a section's task, resource, length or parent; 42 resource not above its parent's; 43 children too long"
 unfoldable pub tableRefusal : Sections → Option ℕ
 tableRefusal s =
-    orElse (firstOf (40 when not (countsFit s) or accepted))
-    (orElse (foldTo (s .count) (sectionRefusal s) none) (firstOf (43 when not (allTo (s .count) (childrenFit s)) or accepted)))
+    firstOf (40 when not (countsFit s) or accepted)
+    orElse foldTo (s .count) (sectionRefusal s) none
+    orElse firstOf (43 when not (allTo (s .count) (childrenFit s)) or accepted)
 
 -- "44 no such task; 45 allowance not 1 to 1,000,000"
 unfoldable pub refusal : Sections → ℕ → ℕ → Option ℕ
 refusal s t allowance =
-    orElse (tableRefusal s)
-    (firstOf (44 when not (ltb t (s .tasks)) or 45 when not (leb 1 allowance && leb allowance 1000000) or accepted))
+    tableRefusal s
+    orElse firstOf (44 when not (ltb t (s .tasks)) or 45 when not (leb 1 allowance && leb allowance 1000000) or accepted)

@@ -9,7 +9,6 @@ use Rattle.laws.specs.Loops.{joinTo}
 use Rattle.model.specs.declared.State.{State}
 use Rattle.model.specs.declared.Event.{Event}
 use Rattle.model.specs.declared.Answer.{Answer}
-use Rattle.model.specs.declared.Outcome.{Outcome}
 use Rattle.model.specs.State.{places, serverAt, taskAt, here}
 use Rattle.model.specs.Fresh.{unusable, freshState}
 use Rattle.model.specs.Step.{stepped}

@@ -1,10 +1,9 @@
 -- Every example holds, computed by the checker from the definitions: `marked` is the theorem of document 01's table. Assumes nothing.
 use mathlib.Core.Path.{_≡_, refl}
-use mathlib.Core.Bool.{Bool, true, _||_}
+use mathlib.Core.Bool.{true, _||_}
 use Prim.Native.Nat.{ℕ}
 use lib.Dec.{ltb, eqb}
 use Rattle.model.specs.declared.State.{State}
-use Rattle.model.specs.declared.Outcome.{Outcome}
 use Rattle.model.specs.declared.Event.the-variants.{Elapse}
 use Rattle.model.specs.declared.Answer.the-variants.{Refused}
 use Rattle.laws.specs.Tests.{firstOf}
@@ -20,7 +19,7 @@ use Rattle.bound.specs.Sets as sets
 use Rattle.bound.specs.Table as sections
 use Rattle.bound.specs.Interference as interference
 use Rattle.bound.specs.Answer as bounded
-use Rattle.trace.specs.Reading.{twoBytes, fourBytes, bodyLength, entryIn, recordIn, readFault, readAt, itemsFrom, items}
+use Rattle.trace.specs.Reading.{twoBytes, fourBytes, bodyLength, entryIn, recordIn, readFault, readAt, itemsFrom, itemsAt, items}
 use Rattle.listing.specs.Text.{bytes, digits, decimal, field, newline, spelled, phaseWord}
 use Rattle.listing.specs.Listing.{eventLine, stopLine, serverLine, taskLine, endLines, itemsText, listing}
 use Rattle.marked.specs.Example.{AllHold, _and_, nothing}
@@ -44,7 +43,7 @@ unfolding firstOf countTo allTo sumTo setTo foldTo betterOf bestTo joinTo after 
     sets.meets sections.around sections.outer sections.sectionFits sections.childLength sections.childrenFit sections.sectionRefusal sections.tableRefusal
     sections.refusal interference.run interference.weighingIf interference.bestTurn interference.best interference.orderTurn interference.order
     interference.blocker interference.blockers interference.ordering interference.sumTurn interference.sums interference.level interference.bound
-    bounded.answer twoBytes fourBytes bodyLength entryIn recordIn readFault readAt itemsFrom items bytes digits decimal field newline spelled phaseWord
+    bounded.answer twoBytes fourBytes bodyLength entryIn recordIn readFault readAt itemsFrom itemsAt items bytes digits decimal field newline spelled phaseWord
     eventLine stopLine serverLine taskLine endLines itemsText listing
 examples = (
   refl and refl and refl and elapse-refused 0 refl and elapse-refused 1000001 refl and refl and refl and refl and refl and

@@ -1,6 +1,6 @@
 -- What an example says. Assumes nothing.
 use mathlib.Core.Path.{_≡_}
-use mathlib.Core.Bool.{Bool, true}
+use mathlib.Core.Bool.{true}
 use mathlib.Core.List.{List, [], _∷_, map}
 use Prim.Native.Nat.{ℕ}
 use Prim.Native.String.{String}
@@ -15,7 +15,6 @@ use Rattle.model.specs.declared.Table.{Table}
 use Rattle.model.specs.declared.Event.{Event}
 use Rattle.model.specs.declared.Answer.{Answer}
 use Rattle.model.specs.declared.Answer.the-variants.{Ok, Refused}
-use Rattle.model.specs.declared.Outcome.{Outcome}
 use Rattle.model.specs.Sound.{sound}
 use Rattle.model.specs.Fresh.{freshState}
 use Rattle.model.specs.Step.{stepped, move}

@@ -1,13 +1,12 @@
 -- Further examples, computed like the marked ones: document 01's slips, the empty trace, and what tells wrong variants of the definitions
 -- apart (must-fail/*.variant). Assumes nothing.
 use mathlib.Core.List.{List, [], _∷_, _++_}
-use Prim.Native.Nat.{ℕ}
 use Rattle.model.specs.declared.Phase.the-variants.{Idle, Active, Running, Recharging}
 use Rattle.model.specs.declared.Runs.the-variants.{Nowhere}
 use Rattle.model.specs.declared.Table.{Table}
 use Rattle.model.specs.declared.Event.{Event}
 use Rattle.model.specs.declared.Event.the-variants.{Elapse}
-use Rattle.model.specs.declared.Answer.the-variants.{Ok, Executes, Spins, Waits, Passed, Refused}
+use Rattle.model.specs.declared.Answer.the-variants.{Ok, Waits, Passed, Refused}
 use Rattle.marked.specs.Trace.{line, tableOf, wake, suspend, dispatch, preempt, recharge, lock, unlock, traceOf}
 use Rattle.marked.specs.Example.{Example, prints, leads}
 use Rattle.marked.specs.Marked.{on, spinners, spinning}

@@ -2,7 +2,6 @@
 use mathlib.Core.List.{List, [], _∷_, _++_}
 use Prim.Native.Nat.{ℕ, _-_}
 use lib.ListN.{length, replicate}
-use Rattle.model.specs.declared.ServerNo.{ServerNo}
 use Rattle.model.specs.declared.Phase.the-variants.{Active, Running, Recharging}
 use Rattle.model.specs.declared.Runs.{Runs}
 use Rattle.model.specs.declared.Runs.the-variants.{Nowhere, In}

@@ -2,8 +2,6 @@
 use mathlib.Core.List.{List, [], _∷_, _++_}
 use Prim.Native.Nat.{ℕ, zero, suc, _+_, _-_, _/_, _%_}
 use lib.ListN.{length, replicate}
-use Rattle.model.specs.declared.TaskNo.{TaskNo}
-use Rattle.model.specs.declared.ServerNo.{ServerNo}
 use Rattle.model.specs.declared.Entry.{Entry}
 use Rattle.model.specs.declared.Table.{Table}
 use Rattle.model.specs.declared.Event.{Event}

@@ -1,17 +1,17 @@
 -- Laws of chains: links stay among the numbers in use, the chain end is where the links lead, and the sixteen tasks of its fuel never cut it:
 -- that no chain closes is decided by the test, and there the chain end is what document 01 says (`end-is`). Assumes nothing.
-use mathlib.Core.Path.{_≡_, refl, sym, _∙_, ap}
-use mathlib.Core.Bool.{Bool, true, false, _&&_}
+use mathlib.Core.Path.{_≡_, refl, sym, _∙_}
+use mathlib.Core.Bool.{true, _&&_}
 use Prim.Native.Nat.{ℕ, zero, suc, _<_, _≤_}
 use native.Mathlib.Omega.{arith}
 use lib.Dec.{ltb}
-use borrow.Author.Tests.{ltb-true, ltb-false, lt-ltb, le-ltb}
+use borrow.Author.Tests.{ltb-true, ltb-false}
 use Rattle.laws.specs.Tests.{if_then_else_}
-use Rattle.laws.specs.Links.{hop, walk, Ended, Leads}
+use Rattle.laws.specs.Links.{hop, walk, Leads}
 use Rattle.laws.proofs.Cases.{split, and-left, and-right}
 use Rattle.laws.proofs.Pigeonhole.{walk-ended, walk-linked, walk-more, walk-below, ended-open, closed-or-ended}
 use Rattle.model.specs.declared.State.{State}
-use Rattle.model.specs.State.{places, nobody, taskAt, resourceAt, awaited, ownerNo, here, present, ownerOf, next, chainEnd, served}
+use Rattle.model.specs.State.{places, taskAt, resourceAt, awaited, ownerNo, here, present, ownerOf, next, chainEnd, served}
 
 pub here-below : (st : State) (i : ℕ) → here st i ≡ true → i < places
 unfolding here

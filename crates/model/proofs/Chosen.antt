@@ -1,12 +1,12 @@
 -- The three laws of rule H's third step, which everything above cites: what is chosen is Running and serves the task; there is one if any does;
 -- it depends on those servers' records alone. Assumes nothing.
-use mathlib.Core.Path.{_≡_, refl, sym, _∙_, ap}
-use mathlib.Core.Bool.{Bool, true, false}
+use mathlib.Core.Path.{_≡_}
+use mathlib.Core.Bool.{true}
 use mathlib.Core.Logic.{⊎-elim}
-use Prim.Native.Nat.{ℕ, _<_, _≤_}
+use Prim.Native.Nat.{ℕ, _<_}
 use native.Mathlib.Omega.{arith}
 use Rattle.laws.proofs.Cases.{holds-fails}
-use Rattle.laws.proofs.Best.{None, Some, Best, best-is, best-ext}
+use Rattle.laws.proofs.Best.{Best, best-is, best-ext}
 use Rattle.model.specs.declared.State.{State}
 use Rattle.model.specs.State.{places, nobody, runningFor}
 use Rattle.model.specs.RuleH.{budgetAt, chosen}

@@ -1,7 +1,7 @@
 -- Soundness as facts: each named test of specs/Sound.antt with what it says, a law each way (`Reflects`), and the record of them all.
 -- What stands above uses these facts, never the tests' text. Assumes nothing.
 use mathlib.Core.Path.{_≡_}
-use mathlib.Core.Bool.{Bool, true, false, not, _&&_}
+use mathlib.Core.Bool.{Bool, true}
 use mathlib.Core.Logic.{_⊎_}
 use Prim.Native.Nat.{ℕ, _+_, _^_, _<_, _≤_}
 use native.Mathlib.Omega.{arith}
@@ -10,9 +10,8 @@ use lib.ListN.{getD}
 use Rattle.laws.specs.Tests.{bit}
 use Rattle.laws.specs.Loops.{countTo, allTo}
 use Rattle.laws.proofs.Reflect.{Reflects, reflects-self, reflects-le, reflects-lt, reflects-eq, reflects-change, reflects-not, reflects-and, reflects-or, reflects-implies, reflects-iff, reflects-all}
-use Rattle.model.specs.declared.TaskNo.{TaskNo}
 use Rattle.model.specs.declared.State.{State}
-use Rattle.model.specs.State.{places, serverAt, taskAt, resourceAt, here, present, declares, idle, recharging, suspended, waiting, awaited, owned, ownerNo, placed, placeNo, next, served, runningAt, runningFor}
+use Rattle.model.specs.State.{places, serverAt, taskAt, resourceAt, here, present, declares, idle, recharging, suspended, waiting, awaited, owned, ownerNo, placed, placeNo, served, runningAt, runningFor}
 use Rattle.model.specs.Sound.{ifHere, each, ifPresent, eachResource, clockLimit, sizesFit, reservationFits, declarationFits, deadlineFits, budgetFits, emptyRecharges, seated, heldAt, queuedAt, stackPlaceFits, stackFits, queuePlaceFits, queueFits, ownerFits, waitFits, stackAgrees, queueAgrees, entriesAgree, unownedUnqueued, usedDeclared, allDeclared, chainOpen, idleFits, executorFits, servedExecutes, accountsFit, loose, sound}
 use Rattle.model.proofs.Chain.{here-below, present-below, Open}
 

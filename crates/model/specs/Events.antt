@@ -1,6 +1,6 @@
 -- What each event changes, before rule H: document 01, "Events" and the accounts. A new entry is a function of its number and of the state before,
 -- so that entries past the counts stay as they are. A place of a stack or queue that is given up is set to 0. Assumes nothing.
-use mathlib.Core.Bool.{Bool, true, false, not, _&&_, _||_}
+use mathlib.Core.Bool.{Bool, not, _&&_, _||_}
 use mathlib.Core.List.{List}
 use Prim.Native.Nat.{ℕ, _+_, _-_}
 use lib.Dec.{eqb}

@@ -1,13 +1,11 @@
 -- The state from which a table starts, and its refusals 19 to 21: document 01, "Fresh", and the end of "Refusal numbers". Assumes nothing.
-use mathlib.Core.Bool.{Bool, not}
-use mathlib.Core.List.{List}
+use mathlib.Core.Bool.{not}
 use mathlib.Core.Option.{Option, none, some}
 use Prim.Native.Nat.{ℕ}
 use lib.Dec.{ltb}
 use lib.ListN.{getD, replicate}
 use Rattle.laws.specs.Tests.{if_then_else_, _when_or_, accepted, firstOf, _orElse_}
 use Rattle.laws.specs.Loops.{setTo, foldTo}
-use Rattle.model.specs.declared.TaskNo.{TaskNo}
 use Rattle.model.specs.declared.Phase.the-variants.{Idle}
 use Rattle.model.specs.declared.Mode.the-variants.{Suspended}
 use Rattle.model.specs.declared.Runs.the-variants.{Nowhere}

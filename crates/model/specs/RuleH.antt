@@ -1,11 +1,9 @@
 -- Who executes: document 01, "Who executes (rule H)", as three numbered steps. Assumes nothing.
-use mathlib.Core.Bool.{Bool}
 use mathlib.Core.List.{List}
 use Prim.Native.Nat.{ℕ}
 use lib.Dec.{ltb}
 use Rattle.laws.specs.Tests.{if_then_else_}
 use Rattle.laws.specs.Loops.{setTo, bestTo}
-use Rattle.model.specs.declared.ServerNo.{ServerNo}
 use Rattle.model.specs.declared.Runs.{Runs}
 use Rattle.model.specs.declared.Runs.the-variants.{Nowhere, In}
 use Rattle.model.specs.declared.Task.{Task}

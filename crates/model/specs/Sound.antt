@@ -1,13 +1,12 @@
 -- When a state is sound: document 01, "A state is sound when", one named test for each thing said, in its order.
 -- `loose` is all of it but the clause on processors, `seated` that clause alone. Assumes nothing.
-use mathlib.Core.Bool.{Bool, true, false, not, _&&_, _||_}
+use mathlib.Core.Bool.{Bool, not, _&&_, _||_}
 use Prim.Native.Nat.{ℕ, _+_, _^_}
 use lib.Dec.{ltb, leb, eqb}
 use lib.ListN.{getD}
 use Rattle.laws.specs.Tests.{_implies_, _iff_, bit}
 use Rattle.laws.specs.Loops.{countTo, allTo}
 use Rattle.model.specs.declared.State.{State}
-use Rattle.model.specs.declared.TaskNo.{TaskNo}
 use Rattle.model.specs.State.{places, serverAt, taskAt, resourceAt, here, present, declares, idle, recharging, suspended, waiting, awaited, owned, ownerNo, placed, placeNo, next, served, runningAt, runningFor}
 
 -- p holds of each number in use (tasks and servers; resources)

@@ -1,7 +1,7 @@
 -- The state's entries, which numbers are in use, the chain of waiting, what a server serves and who executes.
 -- Document 01, "Sizes" and the first half of "The state". Assumes nothing.
 use mathlib.Core.Bool.{Bool, true, false, _&&_}
-use mathlib.Core.List.{List, []}
+use mathlib.Core.List.{[]}
 use Prim.Native.Nat.{ℕ, zero, suc, _/_, _%_, _^_}
 use lib.Dec.{ltb, eqb}
 use lib.ListN.{getD}

@@ -1,6 +1,6 @@
 -- One step: refusal, change, rule H, answer; and a run over a list of events. Document 01, "Events" (the answers) and "Refusal numbers".
 -- `free` is the machine of the same text without the tests for 1 and 8, through which the theorems on order go. Assumes nothing.
-use mathlib.Core.Bool.{Bool, true, false, not, _&&_, _||_}
+use mathlib.Core.Bool.{Bool, not, _&&_, _||_}
 use mathlib.Core.List.{List}
 use mathlib.Core.Option.{Option, none, some}
 use Prim.Native.Nat.{ℕ, _+_, _-_}
@@ -8,7 +8,6 @@ use lib.Dec.{ltb, leb, eqb}
 use lib.ListN.{getD}
 use Rattle.laws.specs.Tests.{if_then_else_, bit, _implies_, _when_or_, accepted, firstOf, without}
 use Rattle.laws.specs.Loops.{countTo}
-use Rattle.model.specs.declared.TaskNo.{TaskNo}
 use Rattle.model.specs.declared.State.{State}
 use Rattle.model.specs.declared.Event.{Event}
 use Rattle.model.specs.declared.Event.the-variants.{Wake, Suspend, Dispatch, Preempt, Elapse, Recharge, Lock, Unlock}

@@ -1,7 +1,5 @@
 -- The order of a trace: document 01, "One 16, then a 17 per task, then events", and the refusals that a record meets where it stands.
 -- Assumes nothing.
-use mathlib.Core.Bool.{Bool}
-use mathlib.Core.List.{List}
 use mathlib.Core.Option.{Option, none, some}
 use Prim.Native.Nat.{ℕ, _+_}
 use lib.Dec.{eqb}

@@ -1,5 +1,5 @@
 -- What reading a record at a place of a trace gives: document 01, "Trace and replay", its first two paragraphs. Assumes nothing.
-use mathlib.Core.Bool.{Bool, true, false, not, _&&_, _||_}
+use mathlib.Core.Bool.{not, _&&_, _||_}
 use mathlib.Core.List.{List, [], _∷_}
 use mathlib.Core.Option.{Option, none, some}
 use Prim.Native.Nat.{ℕ, zero, suc, _+_, _-_, _*_}
@@ -9,10 +9,8 @@ use Rattle.laws.specs.Tests.{if_then_else_, _when_or_, accepted, firstOf}
 use Rattle.model.specs.declared.TaskNo.{TaskNo}
 use Rattle.model.specs.declared.ServerNo.{ServerNo}
 use Rattle.model.specs.declared.Entry.{Entry}
-use Rattle.model.specs.declared.Event.{Event}
 use Rattle.model.specs.declared.Event.the-variants.{Wake, Suspend, Dispatch, Preempt, Elapse, Recharge, Lock, Unlock}
 use Rattle.model.specs.Said.{Word, ok, refused}
-use Rattle.trace.specs.declared.Place.{Place}
 use Rattle.trace.specs.declared.Record.{Record}
 use Rattle.trace.specs.declared.Record.the-variants.{Counts, Reservation, Happening}
 use Rattle.trace.specs.declared.Read.{Read}
@@ -109,5 +107,8 @@ unfoldable pub itemsFrom : ℕ → List ℕ → ℕ → List (ℕ × Read)
 itemsFrom zero file at = []
 itemsFrom (suc left) file at = (at, readAt file at) ∷ itemsAfter (itemsFrom left file) (readAt file at)
 
+unfoldable pub itemsAt : List ℕ → ℕ → List (ℕ × Read)
+itemsAt file at = itemsFrom (suc (length file)) file at
+
 unfoldable pub items : List ℕ → List (ℕ × Read)
-items file = itemsFrom (suc (length file)) file 0
+items file = itemsAt file 0
