@@ -48,7 +48,7 @@ unfolding firstOf countTo allTo sumTo setTo foldTo betterOf bestTo joinTo after 
 examples = (
   refl and refl and refl and elapse-refused 0 refl and elapse-refused 1000001 refl and refl and refl and refl and refl and
       refl and refl and refl and refl and refl and nothing,
-  refl and refl and refl and refl and refl and refl and refl and refl and refl and nothing,
+  refl and refl and refl and refl and refl and refl and refl and refl and refl and refl and refl and refl and refl and nothing,
 )
 
 pub marked : AllHold table

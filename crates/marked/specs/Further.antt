@@ -8,8 +8,11 @@ use Rattle.model.specs.declared.Event.{Event}
 use Rattle.model.specs.declared.Event.the-variants.{Elapse}
 use Rattle.model.specs.declared.Answer.the-variants.{Ok, Waits, Passed, Refused}
 use Rattle.marked.specs.Trace.{line, tableOf, wake, suspend, dispatch, preempt, recharge, lock, unlock, traceOf}
-use Rattle.marked.specs.Example.{Example, prints, leads}
-use Rattle.marked.specs.Marked.{on, spinners, spinning}
+use Rattle.bound.specs.declared.Parent.the-variants.{Outermost, Inside}
+use Rattle.bound.specs.declared.Sections.{Sections}
+use Rattle.bound.specs.declared.Bounded.the-variants as bounded
+use Rattle.marked.specs.Example.{Example, prints, leads, bounds}
+use Rattle.marked.specs.Marked.{on, spinners, spinning, section, sectionsOf}
 
 -- "A passes resource 1 to B, who holds 2, for which C waits; C's server must now serve B." A, B, C are tasks 0, 1, 2; B's own server is preempted.
 abbrev pub tablePassing : Table
@@ -39,6 +42,33 @@ acting = spinning ++ preempt 2 ∷ preempt 0 ∷ dispatch 2 ∷ unlock 0 0 ∷ [
 abbrev pub both : List Event
 both = spinning ++ preempt 2 ∷ preempt 0 ∷ dispatch 0 ∷ unlock 0 0 ∷ []
 
+-- a task that comes later in an order sees no more of B for what came before it
+abbrev pub unmoved : Sections
+unmoved =
+    sectionsOf 3
+    (section 2 0 8 Outermost ∷ section 2 2 7 (Inside 0) ∷ section 1 0 4 Outermost ∷ section 0 0 5 Outermost ∷ section 0 2 6 Outermost ∷ [])
+
+-- two sections of a task are equally great, and have other outer resources
+abbrev pub equals : Sections
+equals =
+    sectionsOf 3
+    (section 0 3 1 Outermost ∷ section 1 0 5 Outermost ∷ section 1 3 2 (Inside 1) ∷ section 1 1 5 Outermost ∷ section 1 3 2 (Inside 3)
+    ∷ section 2 0 9 Outermost ∷ section 2 1 8 (Inside 5) ∷ section 2 3 3 (Inside 6) ∷ section 2 1 5 Outermost ∷ section 2 3 2 (Inside 8) ∷ [])
+
+-- what is nested in a weighed section is calculated with its outer resources
+abbrev pub nested : Sections
+nested =
+    sectionsOf 3
+    (section 1 0 2 Outermost ∷ section 2 0 5 Outermost ∷ section 2 1 5 (Inside 1) ∷ section 1 3 2 (Inside 0) ∷ section 2 3 1 (Inside 2)
+    ∷ section 0 1 1 Outermost ∷ [])
+
+-- the table for which the bound is less than what a server can lose (docs/PROVED.md)
+abbrev pub unsafe : Sections
+unsafe =
+    sectionsOf 3
+    (section 0 2 1 Outermost ∷ section 1 0 20 Outermost ∷ section 1 2 4 (Inside 1) ∷ section 1 1 20 Outermost ∷ section 1 2 4 (Inside 3)
+    ∷ section 2 0 20 Outermost ∷ section 2 1 10 (Inside 5) ∷ section 2 2 7 (Inside 6) ∷ section 2 2 6 (Inside 5) ∷ [])
+
 abbrev pub further : List Example
 further =
     prints [] "stop 0 32\n"
@@ -51,4 +81,8 @@ further =
     ∷ leads tableTwo (wake 0 ∷ recharge 0 ∷ []) (Refused 13) (Active ∷ Idle ∷ []) (Nowhere ∷ Nowhere ∷ [])
     ∷ prints (traceOf tableTwo (wake 1 ∷ dispatch 1 ∷ Elapse 4 ∷ suspend 1 ∷ Elapse 1 ∷ wake 1 ∷ []))
     "1 ok 1\n2 executes 1\n3 ok 0\n4 ok 1\n5 ok 0\n6 ok 1\nend 5\nserver 0 idle 2 0 0 0 0\nserver 1 active 9 25 4 0 0\ntask 0 0\ntask 1 4\n"
+    ∷ bounds unmoved 1 1000000 (bounded.Bound 19 6)
+    ∷ bounds equals 0 1000000 (bounded.Bound 4 8)
+    ∷ bounds nested 0 1000000 (bounded.Bound 5 2)
+    ∷ bounds unsafe 0 1000000 (bounded.Bound 7 8)
     ∷ []
