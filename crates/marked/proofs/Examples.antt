@@ -14,7 +14,7 @@ use Rattle.model.specs.Sound.{ifHere, each, ifPresent, eachResource, sizesFit, 
 use Rattle.model.specs.Fresh.{countsRefusal, entryRefusal, taskRefusal, freshRefusal, freshServerAt, freshTaskAt, freshState, freshOf}
 use Rattle.model.specs.RuleH.{budgetAt, chosen, executorBy, settledTask, settled}
 use Rattle.model.specs.Events.{serverBy, eachServer, wakes, wokenServer, woken, rests, restedServer, rested, slept, phased, ownTicks, lentTicks, spinTicks, runsOut, spentServer, tickedTask, taskBy, elapsed, rechargedPhase, recharged, nextInQueue, shifted, granted, joined, restedEnd, locked, freed, passed, unlocked}
-use Rattle.model.specs.Step.{crowded, affords, endsAt, topOf, stateAfter, stepped}
+use Rattle.model.specs.Step.{crowded, affords, endsAt, topOf, stateAfter, attempted, stepped}
 use Rattle.bound.specs.Sets as sets
 use Rattle.bound.specs.Table as sections
 use Rattle.bound.specs.Interference as interference
@@ -29,7 +29,7 @@ use Rattle.marked.specs.Further.{further}
 -- every sound state refuses such an elapse
 elapse-refused
     : (n : ℕ) → (eqb n 0 || ltb 1000000 n) ≡ true → (st : State) → sound st ≡ true → stepped st (Elapse n) ≡ record { answer = Refused 10; state = st }
-unfolding stepped firstOf
+unfolding stepped attempted firstOf
 elapse-refused n e st h = rw (h, e)
 
 examples : AllHold table × AllHold further
@@ -39,7 +39,7 @@ unfolding firstOf countTo allTo sumTo setTo foldTo betterOf bestTo joinTo after 
     usedDeclared allDeclared chainOpen idleFits executorFits servedExecutes accountsFit loose sound countsRefusal entryRefusal taskRefusal freshRefusal
     freshServerAt freshTaskAt freshState freshOf budgetAt chosen executorBy settledTask settled serverBy eachServer wakes wokenServer woken rests
     restedServer rested slept phased ownTicks lentTicks spinTicks runsOut spentServer tickedTask taskBy elapsed rechargedPhase recharged nextInQueue
-    shifted granted joined restedEnd locked freed passed unlocked crowded affords endsAt topOf stateAfter stepped sets.inEither sets.joined sets.notInBoth
+    shifted granted joined restedEnd locked freed passed unlocked crowded affords endsAt topOf stateAfter attempted stepped sets.inEither sets.joined sets.notInBoth
     sets.meets sections.around sections.outer sections.sectionFits sections.childLength sections.childrenFit sections.sectionRefusal sections.tableRefusal
     sections.refusal interference.run interference.weighingIf interference.bestTurn interference.best interference.orderTurn interference.order
     interference.blocker interference.blockers interference.ordering interference.sumTurn interference.sums interference.level interference.bound

@@ -46,17 +46,24 @@ taskAt st t = getD (st .task) t noTask
 abbrev pub resourceAt : State → ℕ → Resource
 resourceAt st r = getD (st .resource) r noResource
 
--- "Entries past the counts are neither read nor changed": i is a task's and a server's number in use
+-- "Entries past the counts are neither read nor changed": i has a place, and is below the count
+abbrev pub inUse : ℕ → ℕ → Bool
+inUse count i = ltb i places && ltb i count
+
+-- i is a task's and a server's number in use
 unfoldable pub here : State → ℕ → Bool
-here st i = ltb i places && ltb i (st .tasks)
+here st i = inUse (st .tasks) i
 
 -- r is a resource's number in use
 unfoldable pub present : State → ℕ → Bool
-present st r = ltb r places && ltb r (st .resources)
+present st r = inUse (st .resources) r
 
 -- "Each task declares the set of resources it may lock": bit r for resource r
+abbrev pub inSet : ℕ → ℕ → Bool
+inSet declared r = ltb r places && eqb (declared / 2 ^ r % 2) 1
+
 unfoldable pub declares : State → ℕ → ℕ → Bool
-declares st t r = eqb (taskAt st t .declared / 2 ^ r % 2) 1
+declares st t r = inSet (taskAt st t .declared) r
 
 -- "A server is Idle, Active, Running or Recharging"
 abbrev pub idle : Phase → Bool

@@ -94,8 +94,12 @@ abbrev pub outcome : Option ℕ → State → Event → Outcome
 outcome none st e = record { answer = answered st (stateAfter st e) e; state = stateAfter st e }
 outcome (some n) st e = record { answer = Refused n; state = st }
 
+-- a step on a state that is sound
+unfoldable pub attempted : State → Event → Outcome
+attempted st e = outcome (firstOf (tests st e)) st e
+
 unfoldable pub stepped : State → Event → Outcome
-stepped st e = outcome (firstOf (1 when not (sound st) or tests st e)) st e
+stepped st e = if sound st then attempted st e else record { answer = Refused 1; state = st }
 
 unfoldable pub free : State → Event → Outcome
 free st e = outcome (firstOf (without 8 (tests st e))) st e

@@ -132,3 +132,5 @@ pub struct Row {
     pub lent: u32,
     pub spin: u32,
 }
+
+pub mod entries;
