@@ -1,0 +1,23 @@
+//! The independent second program of the lock layer, written from document 01 and its readings
+//! alone, in plain Rust. The proved layer is compared with it, and timed against it.
+//!
+//! - `state`: the state, its chains, `fresh`, and soundness clause by clause;
+//! - `step`: the eight events and rule H; `meter`: the rows a caller lends;
+//! - `trace` and `replay`: reading a trace, and its listing;
+//! - `bound`: the interference bound; `section_text`: the text that program `bounds` reads;
+//! - `generate`: seeded cases that reach deep states, and a count of what they reach.
+//!
+//! `cargo test` runs the tests; `generate report SEED ROUNDS` prints what the cases reach.
+//!
+//! Assumes nothing from the proved layer and shares no code with it. Where a comment cites a
+//! reading such as E12, it is one of the project's readings of document 01.
+
+pub mod bound;
+pub mod generate;
+pub mod meter;
+pub mod refusal;
+pub mod replay;
+pub mod section_text;
+pub mod state;
+pub mod step;
+pub mod trace;

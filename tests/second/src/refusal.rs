@@ -1,0 +1,57 @@
+//! The refusal numbers of document 01, one name for each.
+//!
+//! Assumes nothing. The order in which an event tests them is the event's own matter.
+
+/// Why a request was not carried out; the value is the number that is printed.
+#[derive(Clone, Copy, Debug, PartialEq, Eq, PartialOrd, Ord)]
+pub enum Refusal {
+    StateNotSound = 1,
+    NoSuchTaskOrServer = 2,
+    NoSuchResource = 3,
+    ResourceNotDeclared = 4,
+    TaskNotSuspended = 5,
+    TaskNotExecuting = 6,
+    ServerNotActive = 7,
+    NoProcessorFree = 8,
+    ServerNotRunning = 9,
+    TicksOutOfRange = 10,
+    ClockPastLimit = 11,
+    TicksAboveBudget = 12,
+    ServerNotRecharging = 13,
+    ClockBeforeDeadline = 14,
+    AlreadyHeld = 15,
+    ChainWouldClose = 16,
+    NotOwned = 17,
+    NotTopOfStack = 18,
+    CountsOutOfRange = 19,
+    QuotaOrPeriodOutOfRange = 20,
+    DeclaredResourceAbsent = 21,
+    TooFewMeterRows = 22,
+    RecordCutShort = 30,
+    RecordMalformed = 31,
+    RecordOutOfOrder = 32,
+    FileTooLong = 33,
+    SectionCountsOutOfRange = 40,
+    SectionOutOfRange = 41,
+    ResourceNotAboveParent = 42,
+    ChildrenTooLong = 43,
+    NoSuchTaskInTable = 44,
+    AllowanceOutOfRange = 45,
+    AllowanceExceeded = 46,
+}
+
+impl Refusal {
+    /// The number document 01 gives it.
+    pub fn number(self) -> u16 {
+        self as u16
+    }
+}
+
+/// Goes on when the condition holds and refuses otherwise.
+pub(crate) fn require(condition: bool, refusal: Refusal) -> Result<(), Refusal> {
+    if condition {
+        Ok(())
+    } else {
+        Err(refusal)
+    }
+}

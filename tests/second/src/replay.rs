@@ -1,0 +1,118 @@
+//! Replaying a whole trace: the listing that document 01 gives for program `replay`.
+//!
+//! Assumes nothing of the bytes; a file above 60,000 bytes may be given cut to one byte more.
+
+use crate::refusal::Refusal;
+use crate::state::{fresh, Phase, State};
+use crate::step::{step_sound, Answer};
+use crate::trace::{check_size, Place, Reading, Record, TableReader};
+use std::fmt::Write;
+
+/// The whole listing; every line ends with a newline.
+pub fn replay(bytes: &[u8]) -> Vec<u8> {
+    let mut replay = Replay::default();
+    if let Err(fault) = replay.run(bytes) {
+        replay.line(format_args!(
+            "stop {} {}",
+            fault.offset,
+            fault.refusal.number()
+        ));
+    }
+    replay.listing.into_bytes()
+}
+
+/// What ends a listing early, and the offset of the record at fault.
+struct Fault {
+    offset: usize,
+    refusal: Refusal,
+}
+
+#[derive(Default)]
+struct Replay {
+    listing: String,
+    table: TableReader,
+    /// There from the table's end on.
+    state: Option<State>,
+    events: u32,
+}
+
+impl Replay {
+    /// "Each is tested as it is read, so the file's earliest fault is told."
+    fn run(&mut self, bytes: &[u8]) -> Result<(), Fault> {
+        check_size(bytes).map_err(|refusal| Fault { offset: 0, refusal })?;
+        let mut place = Place::start(bytes);
+        loop {
+            let offset = place.offset;
+            let at_place = |refusal| Fault { offset, refusal };
+            match place.read().map_err(at_place)? {
+                Reading::Record(record, next) => {
+                    self.take(record).map_err(at_place)?;
+                    place = next;
+                }
+                Reading::End => return self.end().map_err(at_place),
+            }
+        }
+    }
+
+    fn take(&mut self, record: Record) -> Result<(), Refusal> {
+        let event = self.table.accept(record)?;
+        if let (Some(event), Some(state)) = (event, self.state.as_mut()) {
+            // Sound, as it came from fresh by steps alone.
+            let answer = step_sound(state, event);
+            self.answer_line(answer);
+        } else if let Some(table) = self.table.finished() {
+            let (state, accepted) = fresh(table);
+            accepted?;
+            self.state = Some(state);
+        }
+        Ok(())
+    }
+
+    /// Without a finished table the file's end is out of order.
+    fn end(&mut self) -> Result<(), Refusal> {
+        let state = self.state.ok_or(Refusal::RecordOutOfOrder)?;
+        self.line(format_args!("end {}", state.clock));
+        for number in state.server_numbers() {
+            let server = &state[number];
+            self.line(format_args!(
+                "server {} {} {} {} {} {} {}",
+                number.0,
+                phase_word(server.phase),
+                server.budget,
+                server.deadline,
+                server.own,
+                server.lent,
+                server.spin
+            ));
+        }
+        for number in state.task_numbers() {
+            let executed = state[number].executed;
+            self.line(format_args!("task {} {executed}", number.0));
+        }
+        Ok(())
+    }
+
+    fn answer_line(&mut self, answer: Answer) {
+        self.events += 1;
+        let event = self.events;
+        let (word, number) = match answer {
+            Ok(outcome) => (outcome.word(), outcome.number()),
+            Err(refusal) => ("refused", u32::from(refusal.number())),
+        };
+        self.line(format_args!("{event} {word} {number}"));
+    }
+
+    fn line(&mut self, text: std::fmt::Arguments) {
+        // Writing to a string cannot fail.
+        let _ = writeln!(self.listing, "{text}");
+    }
+}
+
+fn phase_word(phase: Phase) -> &'static str {
+    match phase {
+        Phase::Idle => "idle",
+        Phase::Active => "active",
+        Phase::Running => "running",
+        Phase::Recharging => "recharging",
+    }
+}
