@@ -1,4 +1,4 @@
-// Traces: what a record is and where reading stands. Only types as yet.
+// Traces: what a record is and where reading stands. `Place::read` reads the record at a place.
 use model::Entry;
 use model::Event;
 
@@ -24,3 +24,7 @@ pub enum Read {
     // 30 or 31
     Fault(u16),
 }
+
+mod kinds;
+mod numbers;
+mod reading;
