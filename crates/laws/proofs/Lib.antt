@@ -9,3 +9,4 @@ pub mod Set
 pub mod Best
 pub mod Join
 pub mod Pigeonhole
+pub mod Unique

@@ -1,0 +1,56 @@
+-- `settle::rule::settled_by` meets its contract. Assumes nothing.
+use mathlib.Core.Path.{_≡_, sym, _∙_}
+use mathlib.Core.Logic.{⊎-elim}
+use Prim.Native.Nat.{_≤_, _-_}
+use borrow.Author.Needs.{needs}
+use native.Mathlib.Omega.{arith}
+use Rattle.settle.specs.Arrays.{settledTo}
+use Rattle.settle.proofs.Arrays.{settled-none, settled-more, settled-skip, settled-done}
+use Rattle.settle.proofs.rule.settled_by.Statement.{statement}
+use Rattle.settle.proofs.rule.settled_by.Tie as tie
+
+pub settled-by-spec : {M : Type 1} → statement M
+settled-by-spec =
+    tie.close
+    (tie.spec
+    (λ ends before acting st count on best after₀ t₀ after t. (t ≤ 16) × (after ≡ settledTo on best before acting st t))
+    (λ ends before acting st count on best after₀ t₀ after t. 16 - t)
+    (λ c κs. search needs)
+    (λ c κs. search needs)
+    (λ c κs. search needs)
+    (λ c. (omega arith, settled-none _ _ _ _ _))
+    (λ c κs. search needs)
+    (λ c. omega arith)
+    (λ c. omega arith)
+    (λ c. omega arith)
+    (λ c. omega arith)
+    (λ c. omega arith)
+    (λ c. omega arith)
+    (λ c κs. search needs)
+    (λ c κs. search needs)
+    (λ c κs. search needs)
+    (λ c. omega arith)
+    (λ c. omega arith)
+    (λ c. omega arith)
+    (λ c. omega arith)
+    (λ c.
+    let loop = c .before .before .before .loop in
+    let test = sym (c .before .in-use .ensures) in
+    ⊎-elim
+    (λ w. (
+      omega arith,
+      w .7
+          ∙ settled-more _ _ _ _ _ _ _ _ _ _ (test ∙ w .0 .taken) (w .4 .ensures) (w .5 .ensures) (w .6 .ensures) (loop .inv .1),
+    ))
+    (λ w. (omega arith, w .1 ∙ settled-skip _ _ _ _ _ _ _ (test ∙ w .0 .left) (loop .inv .1)))
+    (c .if1 .came))
+    (λ c.
+    let at-loop = c .before in
+    let arrays = at-loop .before .before .before .before in
+    settled-done _ _ _ _ _ _ _ _ _
+    (arrays .before .on-now .ensures)
+    (arrays .budgets .ensures)
+    (at-loop .before .bests .ensures)
+    (at-loop .loop .inv .0)
+    (c .loop-test .left)
+    (at-loop .loop .inv .1)))
