@@ -4,12 +4,12 @@ use mathlib.Core.Bool.{Bool, true, false}
 use mathlib.Core.List.{List, [], _∷_}
 use mathlib.Core.Option.{Option, none, some}
 use mathlib.Core.Logic.{_↔_}
-use Prim.Native.Nat.{ℕ, _<_}
+use Prim.Native.Nat.{ℕ, _<_, _≤_}
 use native.Mathlib.Omega.{arith}
-use lib.Dec.{ltb}
-use borrow.Author.Tests.{ltb-true, lt-ltb}
+use lib.Dec.{ltb, leb}
+use borrow.Author.Tests.{ltb-true, lt-ltb, leb-true}
 use Rattle.laws.specs.Tests.{firstOf, _orElse_}
-use Rattle.laws.proofs.Cases.{split, none-some}
+use Rattle.laws.proofs.Cases.{split, none-some, and-right}
 use Rattle.laws.proofs.Fold.{fold-keeps}
 use Rattle.bound.specs.declared.Bounded.the-variants.{Bound, Refused}
 use Rattle.bound.specs.declared.Parent.the-variants.{Outermost}
@@ -22,13 +22,18 @@ use Rattle.bound.proofs.Accepted.{Accepted, earlier-none, later-none, p
 use Rattle.bound.proofs.Unfolded.{interference, bound-is}
 
 module _ (s : Sections) (t allowance : ℕ) where
-  task-there : refusal s t allowance ≡ none → t < s .tasks
+  pub task-there : refusal s t allowance ≡ none → t < s .tasks
   unfolding refusal
   task-there e = ltb-true _ _ (passed 44 (ltb t (s .tasks)) _ (later-none (tableRefusal s) _ e) .0)
 
-  table-accepted : refusal s t allowance ≡ none → Accepted s
+  pub table-accepted : refusal s t allowance ≡ none → Accepted s
   unfolding refusal
   table-accepted e = accepted-table s (earlier-none (tableRefusal s) _ e)
+
+  pub allowance-most : refusal s t allowance ≡ none → allowance ≤ 1000000
+  unfolding refusal
+  allowance-most e =
+      leb-true _ _ (and-right (leb 1 allowance) _ (passed 45 _ [] (passed 44 (ltb t (s .tasks)) _ (later-none (tableRefusal s) _ e) .1) .0))
 
   -- accepted: the bound, from the calculation as 01 says it, within the allowance
   pub answer-is : refusal s t allowance ≡ none → answer s t allowance ≡ within allowance (interference s (with noTask t) t Outermost noResource)

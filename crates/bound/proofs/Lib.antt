@@ -6,3 +6,8 @@ pub mod Depths
 pub mod Levels
 pub mod Unfolded
 pub mod Answers
+pub mod Turns
+pub mod Steps
+pub mod Refusals
+pub mod Drawing
+pub mod Answered

@@ -2,3 +2,6 @@ pub mod Sets
 pub mod Table
 pub mod Interference
 pub mod Answer
+pub mod Spending
+pub mod Drawn
+pub mod Numbered

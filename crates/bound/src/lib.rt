@@ -1,5 +1,10 @@
-// The interference bound of 01 ("Interference bound"): its table of sections and its answer. No function yet;
-// what the bound is stands in specs/. Assumes nothing.
+// The interference bound of 01 ("Interference bound"): its table of sections, its answer, and what the calculation hands on. What the bound is
+// stands in specs/; the functions stand in the modules. Assumes nothing.
+pub mod answer;
+mod draw;
+mod interference;
+mod sets;
+mod table;
 
 // Where a section stands: in none, or directly in the section of that number.
 pub enum Parent {
@@ -25,4 +30,10 @@ pub struct Sections {
 pub enum Bounded {
     Bound(u64, u32),
     Refused(u16),
+}
+
+// A value, the place of the section that gave it (its number and one, or 0 for none), and the allowance left; or the weighings exceeded it.
+pub enum Tally {
+    Of(u64, usize, u32),
+    Exceeded,
 }

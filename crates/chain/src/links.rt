@@ -19,7 +19,7 @@ fn owner_in_use(tasks: u16, owner: Owner) -> usize
 }
 
 // The owner of each resource.
-fn owners(st: State) -> [usize; 16]
+pub fn owners(st: State) -> [usize; 16]
     ensures { λ r. ⌜ r ≡ ownersOf st ⌝ }
 {
     let resources = st.resources;
@@ -36,7 +36,7 @@ fn owners(st: State) -> [usize; 16]
 }
 
 // What the array has at i, or 16 past its end.
-fn at_or_nobody(xs: &[usize; 16], i: usize) -> usize
+pub fn at_or_nobody(xs: &[usize; 16], i: usize) -> usize
     ensures { λ r. ⌜ r ≡ atOrNobody (now (xs .entry)) i ⌝ }
 {
     if i < 16 { xs[i] } else { 16 }

@@ -14,7 +14,7 @@ use Rattle.laws.specs.Tests.{if_then_else_}
 use Rattle.laws.specs.Loops.{setTo, foldTo, bestTo, betterOf}
 use Rattle.laws.proofs.Cases.{split, and-left}
 use Rattle.laws.proofs.Lists.{getD-set, replicate-at}
-use Rattle.laws.proofs.Set.{length-setTo, set-at, set-more, set-same, set-skip, set-kept}
+use Rattle.laws.proofs.Set.{length-setTo, set-at, set-past, set-more, set-same, set-skip, set-kept}
 use Rattle.laws.proofs.Fold.{turns-done}
 use Rattle.laws.proofs.Best.{best-ext}
 use Rattle.model.specs.declared.Runs.{Runs}
@@ -147,18 +147,23 @@ module _ (on best before : List ℕ) (acting : ℕ) (st : State) where
   unfolding settledTo setTo
   settled-none = refl
 
+  -- entries that the loop has not reached are as they were
+  ahead : (t : ℕ) (after : State) → after ≡ settledTo on best before acting st t → taskAt after t ≡ taskAt st t
+  unfolding settledTo
+  ahead t after so-far = ap (λ a. taskAt a t) so-far ∙ set-past t t _ (st .task) noTask (omega arith)
+
   pub settled-more
       : (t s : ℕ) (runs : Runs) (entry : Task) (after : State)
       → inUse (st .tasks) t ≡ true
       → s ≡ executorIn on (getD before t 0) acting (getD best t 0) t
       → runs ≡ runsIn s
-      → entry ≡ withRuns runs (taskAt st t)
+      → entry ≡ withRuns runs (taskAt after t)
       → after ≡ settledTo on best before acting st t
       → withTasks (set (after .task) t entry) after ≡ settledTo on best before acting st (t + 1)
   unfolding settledTo settledTaskBy here
   settled-more t s runs entry after used e x w so-far =
       ap (λ a. withTasks (set (a .task) t entry) a) so-far
-      ∙ ap (λ ts. withTasks ts st) (set-more _ t _ _ entry (w ∙ rw (used, x, e)) refl)
+      ∙ ap (λ ts. withTasks ts st) (set-more _ t _ _ entry (w ∙ ap (withRuns runs) (ahead t after so-far) ∙ rw (used, x, e)) refl)
 
   pub settled-skip
       : (t : ℕ) (after : State)

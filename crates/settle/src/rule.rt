@@ -145,12 +145,13 @@ fn with_runs(runs: Runs, entry: Task) -> Task
     }
 }
 
-// The state after rule H, for a caller that has the chain ends, and who executed before, as arrays.
+// The state after rule H, for a caller that has the chain ends, and who executed before, as arrays. It writes into the state that it is given:
+// a copy of it would be a third of its time.
 pub fn settled_by<'a>(
     ends: &'a [usize; 16],
     before: &'a [usize; 16],
     acting: usize,
-    st: State,
+    mut st: State,
 ) -> State
     ensures { λ r. ⌜ r ≡ settledBy (now (ends .entry)) (now (before .entry)) acting st ⌝ }
 {
@@ -159,15 +160,14 @@ pub fn settled_by<'a>(
     let on = on_now(servers, count, ends);
     let left = budgets(servers, count);
     let best = bests(&on, &left);
-    let mut after = st;
     for t in 0..16usize {
         if model::entries::in_use(count, t) {
             let entry = st.task[t];
             let s = executor(&on, before[t], acting, best[t], t);
-            after.task[t] = with_runs(runs_in(s), entry);
+            st.task[t] = with_runs(runs_in(s), entry);
         }
     }
-    after
+    st
 }
 
 // The state after rule H: `old` is the state before the event, `acting` where the task that locked or unlocked executed then, `st` the changed state.

@@ -13,8 +13,8 @@ pub settled-by-spec : {M : Type 1} → statement M
 settled-by-spec =
     tie.close
     (tie.spec
-    (λ ends before acting st count on best after₀ t₀ after t. (t ≤ 16) × (after ≡ settledTo on best before acting st t))
-    (λ ends before acting st count on best after₀ t₀ after t. 16 - t)
+    (λ ends before acting st₀ count on best t₀ st t. (t ≤ 16) × (st ≡ settledTo on best before acting st₀ t))
+    (λ ends before acting st₀ count on best t₀ st t. 16 - t)
     (λ c κs. search needs)
     (λ c κs. search needs)
     (λ c κs. search needs)

@@ -1,0 +1,56 @@
+-- From what the calculation leaves of the allowance to what is answered. Assumes nothing.
+use mathlib.Core.Path.{_≡_, refl, sym, ap, _∙_}
+use mathlib.Core.List.{List}
+use mathlib.Core.Option.{none}
+use Prim.Native.Nat.{ℕ, zero, suc, _-_}
+use native.Mathlib.Omega.{arith}
+use borrow.Author.Tests.{lt-ltb, le-ltb}
+use Rattle.bound.specs.declared.Bounded.the-variants.{Bound, Refused}
+use Rattle.bound.specs.declared.Parent.the-variants.{Outermost}
+use Rattle.bound.specs.declared.Sections.{Sections}
+use Rattle.bound.specs.declared.Tally.the-variants.{Of, Exceeded}
+use Rattle.bound.specs.Sets.{Tasks, Resources, noTask, noResource, with}
+use Rattle.bound.specs.Table.{refusal}
+use Rattle.bound.specs.Interference.{bound, level}
+use Rattle.bound.specs.Answer.{answer}
+use Rattle.bound.specs.Spending.{spend}
+use Rattle.bound.specs.Drawn.{Rows, rowsOf, outersIn, Ranged, Shown, sumsAt}
+use Rattle.bound.specs.Numbered.{numbered}
+use Rattle.bound.proofs.Accepted.{Accepted}
+use Rattle.bound.proofs.Answers.{table-accepted}
+use Rattle.bound.proofs.Drawing.{rows-drawn, rows-ranged, outers-shown}
+use Rattle.bound.proofs.Turns.{lasted, exceeded}
+use Rattle.bound.proofs.Steps.{sums-level}
+
+pub number-none : (n : ℕ) (s : Sections) (t allowance : ℕ) → numbered n ≡ refusal s t allowance → n ≡ 0 → refusal s t allowance ≡ none
+number-none n s t allowance e z = sym e ∙ ap numbered z
+
+pub number-told : (n : ℕ) (s : Sections) (t allowance : ℕ) → numbered n ≡ refusal s t allowance → (n ≡ 0 → ⊥) → Refused n ≡ answer s t allowance
+unfolding answer
+number-told zero s t allowance e f = absurd (f refl)
+number-told (suc n) s t allowance e f = rw (← e)
+
+module _ (s : Sections) (t allowance : ℕ) (free : refusal s t allowance ≡ none) where
+  good : Accepted s
+  good = table-accepted s t allowance free
+
+  pub ranged : (rows : Rows) → rows ≡ rowsOf s → Ranged rows (s .count)
+  ranged rows e = rw e (rows-ranged s good (rowsOf s) (s .count) (rows-drawn s (good .count-most)))
+
+  pub shown : (rows : Rows) (outers : List Resources) → rows ≡ rowsOf s → outers ≡ outersIn rows (s .count) → Shown s rows outers (s .count)
+  shown rows outers e d = rw (d, e) (outers-shown s good (rowsOf s) (s .count) (rows-drawn s (good .count-most)))
+
+  pub spent-is : (itself : Tasks) → itself ≡ with noTask t → spend (sumsAt (s .tasks - 1) 12 s itself t Outermost noResource) allowance ≡ spend (bound s t) allowance
+  unfolding bound
+  spent-is itself e = rw (e, sums-level)
+
+  pub answer-of : (v u l : ℕ) → Of v u l ≡ spend (bound s t) allowance → Bound v (allowance - l) ≡ answer s t allowance
+  unfolding answer
+  answer-of v u l e =
+      let h = lasted (bound s t) allowance v u l e in
+      let spent : allowance - l ≡ bound s t .weighings = omega arith in
+      rw (free, le-ltb allowance (bound s t .weighings) (h .enough), h .value-is, spent)
+
+  pub answer-exceeded : Exceeded ≡ spend (bound s t) allowance → Refused 46 ≡ answer s t allowance
+  unfolding answer
+  answer-exceeded e = rw (free, lt-ltb allowance (bound s t .weighings) (exceeded (bound s t) allowance e))

@@ -1,0 +1,527 @@
+-- The proof of the cycle of calls: the interference sum, the ordering value, and what stands between them. The measure falls with the tasks
+-- outside B, then with the depth or with the tasks left to order. Assumes nothing.
+use mathlib.Core.Path.{_≡_, refl, sym, ap, _∙_}
+use mathlib.Core.Bool.{not}
+use mathlib.Core.Option.{none}
+use mathlib.Core.Logic.{⊎-elim}
+use Prim.Native.Nat.{ℕ, _+_, _-_, _*_, _<_, _≤_}
+use borrow.Fn.Kinds.{In}
+use borrow.Fn.PlainCycle.{Measures, is, falls, and}
+use native.Mathlib.Omega.{arith}
+use native.Mathlib.Numerals.{add-one}
+use borrow.Author.Needs.{needs}
+use borrow.Author.Tests.{not-true, not-false}
+use Rattle.bound.specs.declared.Sections.{Sections}
+use Rattle.bound.specs.Interference.{run, weighing, bestTurn, best, orderTurn, order, ordering, sumTurn, level}
+use Rattle.bound.specs.Spending.{sectionOf, spend}
+use Rattle.bound.specs.Drawn.{Shown, parentOf, sumsAt}
+use Rattle.bound.proofs.Turns.{turns-end}
+use Rattle.bound.proofs.Steps.{fair-of, weigh-not, weigh-none, weigh-met, weigh-of, weigh-out, best-greater, best-stays, best-exceeds, order-goes, order-exceeds, sum-goes, sum-exceeds, tried-not, tried-out, tried-of, tried-later, sum-not, sum-of, sum-out, sum-later, best-begins, order-begins, order-ends, sum-begins, sum-alone, sum-ends, nested-is, own-is, larger-most}
+use Rattle.bound.proofs.interference.first_greatest.Reads as first-greatest
+use Rattle.bound.proofs.interference.first_greatest.Kinds as first-greatest-kinds
+use Rattle.bound.proofs.interference.+first_greatest+interference_sum+largest_order+ordering_value+sum_over+tried_next+weigh.Lts-first_greatest as first-greatest-lts
+use Rattle.bound.proofs.interference.interference_sum.Reads as interference-sum
+use Rattle.bound.proofs.interference.interference_sum.Kinds as interference-sum-kinds
+use Rattle.bound.proofs.interference.+first_greatest+interference_sum+largest_order+ordering_value+sum_over+tried_next+weigh.Lts-interference_sum as interference-sum-lts
+use Rattle.bound.proofs.interference.largest_order.Reads as largest-order
+use Rattle.bound.proofs.interference.largest_order.Kinds as largest-order-kinds
+use Rattle.bound.proofs.interference.+first_greatest+interference_sum+largest_order+ordering_value+sum_over+tried_next+weigh.Lts-largest_order as largest-order-lts
+use Rattle.bound.proofs.interference.ordering_value.Reads as ordering-value
+use Rattle.bound.proofs.interference.ordering_value.Kinds as ordering-value-kinds
+use Rattle.bound.proofs.interference.+first_greatest+interference_sum+largest_order+ordering_value+sum_over+tried_next+weigh.Lts-ordering_value as ordering-value-lts
+use Rattle.bound.proofs.interference.sum_over.Reads as sum-over
+use Rattle.bound.proofs.interference.sum_over.Kinds as sum-over-kinds
+use Rattle.bound.proofs.interference.+first_greatest+interference_sum+largest_order+ordering_value+sum_over+tried_next+weigh.Lts-sum_over as sum-over-lts
+use Rattle.bound.proofs.interference.tried_next.Reads as tried-next
+use Rattle.bound.proofs.interference.tried_next.Kinds as tried-next-kinds
+use Rattle.bound.proofs.interference.+first_greatest+interference_sum+largest_order+ordering_value+sum_over+tried_next+weigh.Lts-tried_next as tried-next-lts
+use Rattle.bound.proofs.interference.weigh.Reads as weigh
+use Rattle.bound.proofs.interference.weigh.Kinds as weigh-kinds
+use Rattle.bound.proofs.interference.+first_greatest+interference_sum+largest_order+ordering_value+sum_over+tried_next+weigh.Lts-weigh as weigh-lts
+use Rattle.bound.proofs.interference.blockers.Reads as blockers-reads
+use Rattle.bound.proofs.interference.held_after.Reads as held-after-reads
+use Rattle.bound.proofs.interference.is_in.Reads as is-in-reads
+use Rattle.bound.proofs.interference.is_on.Reads as is-on-reads
+use Rattle.bound.proofs.interference.larger.Reads as larger-reads
+use Rattle.bound.proofs.sets.joined.Reads as joined-reads
+use Rattle.bound.proofs.sets.meets.Reads as meets-reads
+use Rattle.bound.proofs.sets.with_resource.Reads as with-resource-reads
+use Rattle.bound.proofs.sets.with_task.Reads as with-task-reads
+use Rattle.bound.proofs.sets.without_task.Reads as without-task-reads
+use Rattle.bound.proofs.interference.+first_greatest+interference_sum+largest_order+ordering_value+sum_over+tried_next+weigh.{statement}
+use Rattle.bound.proofs.interference.+first_greatest+interference_sum+largest_order+ordering_value+sum_over+tried_next+weigh.Tie.{close}
+
+abbrev μ-first-greatest : Measures 4 first-greatest-kinds.ps ℕ
+μ-first-greatest κs a = a .1 .1 .0 .left * 10000 + 5000
+
+abbrev μ-interference-sum : Measures 4 interference-sum-kinds.ps ℕ
+μ-interference-sum κs a = a .1 .1 .0 .left * 10000 + a .1 .1 .0 .depth * 20 + 19
+
+abbrev μ-largest-order : Measures 5 largest-order-kinds.ps ℕ
+μ-largest-order κs a = a .1 .1 .0 .left * 10000 + 9000 + a .1 .1 .0 .depth * 20 + 19
+
+abbrev μ-ordering-value : Measures 4 ordering-value-kinds.ps ℕ
+μ-ordering-value κs a = a .1 .1 .0 .left * 10000 + 5
+
+abbrev μ-sum-over : Measures 4 sum-over-kinds.ps ℕ
+μ-sum-over κs a = a .1 .1 .0 .left * 10000 + a .1 .1 .0 .depth * 20 + 10
+
+abbrev μ-tried-next : Measures 5 tried-next-kinds.ps ℕ
+μ-tried-next κs a = a .1 .1 .0 .left * 10000 + 9000 + a .1 .1 .0 .depth * 20 + 10
+
+abbrev μ-weigh : Measures 4 weigh-kinds.ps ℕ
+μ-weigh κs a = a .1 .1 .0 .left * 10000 + 4000
+
+abbrev first-greatest-at : ℕ → In 4 first-greatest-kinds.ps
+first-greatest-at t = and 4 first-greatest-kinds.ps (is 4 first-greatest-kinds.ps μ-first-greatest t) first-greatest.Pre
+
+abbrev first-greatest-below : ℕ → In 4 first-greatest-kinds.ps
+first-greatest-below t = and 4 first-greatest-kinds.ps (falls 4 first-greatest-kinds.ps _<_ μ-first-greatest t) first-greatest.Pre
+
+abbrev interference-sum-at : ℕ → In 4 interference-sum-kinds.ps
+interference-sum-at t = and 4 interference-sum-kinds.ps (is 4 interference-sum-kinds.ps μ-interference-sum t) interference-sum.Pre
+
+abbrev interference-sum-below : ℕ → In 4 interference-sum-kinds.ps
+interference-sum-below t = and 4 interference-sum-kinds.ps (falls 4 interference-sum-kinds.ps _<_ μ-interference-sum t) interference-sum.Pre
+
+abbrev largest-order-at : ℕ → In 5 largest-order-kinds.ps
+largest-order-at t = and 5 largest-order-kinds.ps (is 5 largest-order-kinds.ps μ-largest-order t) largest-order.Pre
+
+abbrev largest-order-below : ℕ → In 5 largest-order-kinds.ps
+largest-order-below t = and 5 largest-order-kinds.ps (falls 5 largest-order-kinds.ps _<_ μ-largest-order t) largest-order.Pre
+
+abbrev ordering-value-at : ℕ → In 4 ordering-value-kinds.ps
+ordering-value-at t = and 4 ordering-value-kinds.ps (is 4 ordering-value-kinds.ps μ-ordering-value t) ordering-value.Pre
+
+abbrev ordering-value-below : ℕ → In 4 ordering-value-kinds.ps
+ordering-value-below t = and 4 ordering-value-kinds.ps (falls 4 ordering-value-kinds.ps _<_ μ-ordering-value t) ordering-value.Pre
+
+abbrev sum-over-at : ℕ → In 4 sum-over-kinds.ps
+sum-over-at t = and 4 sum-over-kinds.ps (is 4 sum-over-kinds.ps μ-sum-over t) sum-over.Pre
+
+abbrev sum-over-below : ℕ → In 4 sum-over-kinds.ps
+sum-over-below t = and 4 sum-over-kinds.ps (falls 4 sum-over-kinds.ps _<_ μ-sum-over t) sum-over.Pre
+
+abbrev tried-next-at : ℕ → In 5 tried-next-kinds.ps
+tried-next-at t = and 5 tried-next-kinds.ps (is 5 tried-next-kinds.ps μ-tried-next t) tried-next.Pre
+
+abbrev tried-next-below : ℕ → In 5 tried-next-kinds.ps
+tried-next-below t = and 5 tried-next-kinds.ps (falls 5 tried-next-kinds.ps _<_ μ-tried-next t) tried-next.Pre
+
+abbrev weigh-at : ℕ → In 4 weigh-kinds.ps
+weigh-at t = and 4 weigh-kinds.ps (is 4 weigh-kinds.ps μ-weigh t) weigh.Pre
+
+abbrev weigh-below : ℕ → In 4 weigh-kinds.ps
+weigh-below t = and 4 weigh-kinds.ps (falls 4 weigh-kinds.ps _<_ μ-weigh t) weigh.Pre
+
+abbrev first-greatest-Inv-loop : first-greatest-lts.InvT-loop
+first-greatest-Inv-loop rows outer reach b held resource task allowance count value₀ giver₀ kept₀ i₀ value giver kept i =
+    (i ≤ count)
+    × (giver ≤ count)
+    × (value + 1000000 * kept ≤ 1000000 * allowance)
+    × ((s : Sections) → Shown s rows outer count → let weigh = weighing (level (reach .left) s) s b held in
+    spend (run (bestTurn weigh s resource task) (count - i) i value (sectionOf giver)) kept ≡ spend (best weigh s resource task) allowance)
+
+abbrev interference-sum-Inv-loop : interference-sum-lts.InvT-loop
+interference-sum-Inv-loop rows outer reach b task place r allowance count value₀ kept₀ c₀ value kept c =
+    (c ≤ count)
+    × (value + 1000000 * kept ≤ 1000000 * allowance)
+    × ((s : Sections) → Shown s rows outer count → let ordered = ordering (reach .left) (level (reach .left - 1) s) s b in
+    spend (run (sumTurn ordered (sumsAt (reach .left) (reach .depth - 1) s b task) s task (parentOf place) r) (count - c) c value none) kept
+    ≡ spend (sumsAt (reach .left) (reach .depth) s b task (parentOf place) r) allowance)
+
+abbrev largest-order-Inv-loop : largest-order-lts.InvT-loop
+largest-order-Inv-loop rows outer reach b remaining held resource allowance value₀ kept₀ task₀ value kept task =
+    (task ≤ 6)
+    × (value + 1000000 * kept ≤ 1000000 * allowance)
+    × ((s : Sections) → Shown s rows outer (reach .count) → let weigh = weighing (level (reach .left) s) s in
+    spend (run (orderTurn weigh (order (reach .depth - 1) weigh s resource) s resource b remaining held) (6 - task) task value none) kept
+    ≡ spend (order (reach .depth) weigh s resource b remaining held) allowance)
+
+pub +first-greatest+interference-sum+largest-order+ordering-value+sum-over+tried-next+weigh-spec : {M : Type 1} → statement M
++first-greatest+interference-sum+largest-order+ordering-value+sum-over+tried-next+weigh-spec =
+    close μ-first-greatest μ-interference-sum μ-largest-order μ-ordering-value μ-sum-over μ-tried-next μ-weigh
+    (λ t. first-greatest-lts.spec
+    (weigh-below t, weigh.Post)
+    (first-greatest-at t)
+    first-greatest.Post
+    first-greatest-Inv-loop
+    (λ rows outer reach b held resource task allowance count value₀ giver₀ kept₀ i₀ value giver kept i. count - i)
+    (λ c. (omega arith, omega arith, omega arith, λ s shown. best-begins _ s _ _ _ _ (shown .drawn .count-is)))
+    (λ c κs. let start = c .before .before in (omega (arith, start .pre .0), (start .pre .1 .0, omega arith, omega arith, omega arith, omega arith)))
+    (λ c. search needs)
+    (λ c. search needs)
+    (λ c.
+    let call = c .before .before in
+    let at-loop = call .before .before in (
+      λ s shown.
+          best-exceeds _ _ _ _ _ _ _ _ _ (at-loop .loop .giver) _ (omega arith) (sym (c .enum-told .given .1) ∙ call .weigh .ensures .0 s shown)
+          ∙ at-loop .loop .inv .3 s shown,
+      tt,
+    ))
+    (λ c. search needs)
+    (λ c. search needs)
+    (λ c. search needs)
+    (λ c.
+    let known = c .before .before in
+    let call = known .before .before in
+    let at-loop = call .before .before in
+    let fair = fair-of _ _ _ _ _ _ _ (known .weighed .given .1) (call .weigh .ensures .1) in
+    ⊎-elim
+    (λ w. (
+      omega arith,
+      omega arith,
+      omega arith,
+      λ s shown.
+          best-greater _ _ _ _ _ _ _ _ _ (at-loop .loop .giver) _ (omega arith) _ _ _ _ _
+          (sym (known .weighed .given .1) ∙ call .weigh .ensures .0 s shown) (w .0 .taken) (w .1) (w .2)
+          ∙ at-loop .loop .inv .3 s shown,
+    ))
+    (λ w. (
+      omega arith,
+      omega arith,
+      omega arith,
+      λ s shown.
+          best-stays _ _ _ _ _ _ _ _ _ (at-loop .loop .giver) _ (omega arith) _ _ _ _ _
+          (sym (known .weighed .given .1) ∙ call .weigh .ensures .0 s shown) (w .0 .left) (w .1) (w .2)
+          ∙ at-loop .loop .inv .3 s shown,
+    ))
+    (c .if1 .came))
+    (λ c. (
+      λ s shown.
+          sym (turns-end _ _ _ _ _ _ (omega arith) (omega arith)) ∙ c .before .loop .inv .3 s shown,
+      record { most = omega arith; giver-most = omega arith },
+    )))
+    (λ t. interference-sum-lts.spec
+    (sum-over-below t, sum-over.Post)
+    (interference-sum-at t)
+    interference-sum.Post
+    interference-sum-Inv-loop
+    (λ rows outer reach b task place r allowance count value₀ kept₀ c₀ value kept c. count - c)
+    (λ c. (
+      λ s shown.
+          sum-alone s _ _ _ _ _ _ _ (c .if1 .taken),
+      record { most = omega arith; giver-most = omega arith },
+    ))
+    (λ c. (
+      λ s shown.
+          sum-ends s _ _ _ _ _ _ _ (c .if2 .taken),
+      record { most = omega arith; giver-most = omega arith },
+    ))
+    (λ c. (omega arith, omega arith, λ s shown. sum-begins s _ _ _ _ _ _ _ _ (c .before .before .if1 .left) (c .if2 .left) (shown .drawn .count-is)))
+    (λ c κs.
+    let deep = c .before .before .if2 .left in
+    let some-left = c .before .before .before .before .if1 .left in
+    let start = c .before .before .before .before .before .before in
+    (omega (arith, start .pre .0), (start .pre .1 .0, omega arith, omega (arith, some-left), omega arith, omega (arith, deep), omega arith, omega arith)))
+    (λ c. search needs)
+    (λ c. search needs)
+    (λ c.
+    let call = c .before .before in (
+      λ s shown.
+          sum-exceeds _ _ _ _ _ _ _ _ _ _ (omega arith) (sym (c .enum-told .given .1) ∙ call .sum-over .ensures .0 s shown)
+          ∙ call .before .before .loop .inv .2 s shown,
+      tt,
+    ))
+    (λ c. let fair = fair-of _ _ _ _ _ _ _ (c .before .added .given .1) (c .before .before .before .sum-over .ensures .1) in record { fits = omega arith })
+    (λ c. search needs)
+    (λ c. search needs)
+    (λ c.
+    let call = c .before .before .before in
+    let fair = fair-of _ _ _ _ _ _ _ (c .before .added .given .1) (call .sum-over .ensures .1) in (
+      omega arith,
+      omega arith,
+      λ s shown.
+          sum-goes _ _ _ _ _ _ _ _ _ _ (omega arith) _ _ _ (sym (c .before .added .given .1) ∙ call .sum-over .ensures .0 s shown)
+          ∙ call .before .before .loop .inv .2 s shown,
+    ))
+    (λ c. (
+      λ s shown.
+          sym (turns-end _ _ _ _ 0 _ (omega arith) (omega arith)) ∙ c .before .loop .inv .2 s shown,
+      record { most = omega arith; giver-most = omega arith },
+    )))
+    (λ t. largest-order-lts.spec
+    (tried-next-below t, tried-next.Post, larger-reads.Asked, larger-reads.Learnt)
+    (largest-order-at t)
+    largest-order.Post
+    largest-order-Inv-loop
+    (λ rows outer reach b remaining held resource allowance value₀ kept₀ task₀ value kept task. 6 - task)
+    (λ c. (
+      λ s shown.
+          order-ends _ _ _ _ _ _ _ _ (c .if1 .taken),
+      record { most = omega arith; giver-most = omega arith },
+    ))
+    (λ c. (omega arith, omega arith, λ s shown. order-begins _ _ _ _ _ _ _ _ (c .if1 .left)))
+    (λ c κs.
+    let some-left = c .before .before .if1 .left in
+    let start = c .before .before .before .before in
+    (omega (arith, start .pre .0), (start .pre .1 .0, omega arith, omega arith, omega (arith, some-left), omega arith, omega arith)))
+    (λ c. search needs)
+    (λ c. search needs)
+    (λ c.
+    let call = c .before .before in (
+      λ s shown.
+          order-exceeds _ _ _ _ _ _ _ _ _ _ _ (omega arith) (sym (c .enum-told .given .1) ∙ call .tried-next .ensures .0 s shown)
+          ∙ call .before .before .loop .inv .2 s shown,
+      tt,
+    ))
+    (λ c κs. search needs)
+    (λ c. search needs)
+    (λ c. search needs)
+    (λ c.
+    let known = c .before .before in
+    let call = known .before .before in
+    let at-loop = call .before .before in
+    let fair = fair-of _ _ _ _ _ _ _ (known .tried .given .1) (call .tried-next .ensures .1) in (
+      omega arith,
+      larger-most (at-loop .loop .value) (known .tried .given .0 .0) _ _ _ (c .larger .ensures) (omega arith) (omega arith),
+      λ s shown.
+          order-goes _ _ _ _ _ _ _ _ _ _ _ (omega arith) _ _ _ _
+          (sym (known .tried .given .1) ∙ call .tried-next .ensures .0 s shown) (c .larger .ensures)
+          ∙ at-loop .loop .inv .2 s shown,
+    ))
+    (λ c. (
+      λ s shown.
+          sym (turns-end _ _ _ _ 0 _ (omega arith) (omega arith)) ∙ c .before .loop .inv .2 s shown,
+      record { most = omega arith; giver-most = omega arith },
+    )))
+    (λ t. ordering-value-lts.spec
+    (blockers-reads.Asked, blockers-reads.Learnt, largest-order-below t, largest-order.Post)
+    (ordering-value-at t)
+    ordering-value.Post
+    (λ c κs. c .pre .1 .0)
+    (λ c. search needs)
+    (λ c κs.
+    let start = c .before .before .before in
+    (omega (arith, start .pre .0), (start .pre .1 .0, omega arith, omega arith, omega arith)))
+    (λ c. (
+      λ s shown.
+          c .largest-order .ensures .0 s shown ∙ own-is _ _ s _ _ _ _ _ (c .before .before .before .blockers .ensures s (shown .drawn)),
+      c .largest-order .ensures .1,
+    )))
+    (λ t. sum-over-lts.spec
+    (is-in-reads.Asked, is-in-reads.Learnt, with-resource-reads.Asked, with-resource-reads.Learnt, ordering-value-below t, ordering-value.Post, interference-sum-below t, interference-sum.Post)
+    (sum-over-at t)
+    sum-over.Post
+    (λ c. search needs)
+    (λ c. search needs)
+    (λ c κs. search needs)
+    (λ c. (
+      λ s shown.
+          sum-not s _ _ _ shown _ _ _ _ _ _ _ (omega arith) _ (c .before .is-in .ensures) (not-true _ (c .if1 .taken)),
+      record { most = omega arith; giver-most = omega arith },
+    ))
+    (λ c. search needs)
+    (λ c. search needs)
+    (λ c. search needs)
+    (λ c κs. c .before .before .before .before .pre .1 .0 .resource-most _ (omega arith))
+    (λ c κs.
+    let start = c .before .before .before .before .before .before in
+    (omega (arith, start .pre .0), (start .pre .1 .0, omega arith, omega arith, omega arith)))
+    (λ c. search needs)
+    (λ c. search needs)
+    (λ c.
+    let own = c .before .before in
+    let wide = own .before .before in
+    let inside = wide .before .before in
+    let test = inside .before in
+    let start = test .before .before in (
+      λ s shown.
+          sum-out s _ _ _ shown _ _ _ _ _ _ _ (start .pre .1 .1) _ (test .is-in .ensures) (not-false _ (inside .if1 .left)) _ (wide .with-resource .ensures)
+          (sym (c .enum-told .given .1) ∙ own .ordering-value .ensures .0 s shown),
+      tt,
+    ))
+    (λ c. search needs)
+    (λ c. search needs)
+    (λ c κs.
+    let own = c .before .before .before .before .before in
+    let start = own .before .before .before .before .before .before .before in
+    let fair = fair-of _ _ _ _ _ _ _ (c .before .before .before .own .given .1) (own .ordering-value .ensures .1) in
+    let facts = start .pre .1 in
+    (omega (arith, start .pre .0), (facts .0, omega (arith, facts), omega (arith, facts), omega (arith, facts))))
+    (λ c. search needs)
+    (λ c. search needs)
+    (λ c.
+    let own = c .before .before .before .before .before .before .before .before in
+    let wide = own .before .before in
+    let inside = wide .before .before in
+    let test = inside .before in
+    let start = test .before .before in (
+      λ s shown.
+          sum-later s _ _ _ shown _ _ _ _ _ _ _ (start .pre .1 .1) _ (test .is-in .ensures) (not-false _ (inside .if1 .left)) _ (wide .with-resource .ensures) _ _ _
+          (sym (c .before .before .before .before .before .before .own .given .1) ∙ own .ordering-value .ensures .0 s shown)
+          (sym (c .enum-told2 .given .1) ∙ c .before .before .interference-sum .ensures .0 s shown),
+      tt,
+    ))
+    (λ c.
+    let own = c .before .before .before .before .before .before .before .before .before in
+    let facts = own .before .before .before .before .before .before .before .pre .1 in
+    let fair = fair-of _ _ _ _ _ _ _ (c .before .before .before .before .before .before .before .own .given .1) (own .ordering-value .ensures .1) in
+    let more = fair-of _ _ _ _ _ _ _ (c .before .nested .given .1) (c .before .before .before .interference-sum .ensures .1) in
+    record { fits = omega (arith, facts) })
+    (λ c.
+    let own = c .before .before .before .before .before .before .before .before .before in
+    let wide = own .before .before in
+    let inside = wide .before .before in
+    let test = inside .before in
+    let start = test .before .before in
+    let fair = fair-of _ _ _ _ _ _ _ (c .before .before .before .before .before .before .before .own .given .1) (own .ordering-value .ensures .1) in
+    let more = fair-of _ _ _ _ _ _ _ (c .before .nested .given .1) (c .before .before .before .interference-sum .ensures .1) in (
+      λ s shown.
+          sum-of s _ _ _ shown _ _ _ _ _ _ _ (start .pre .1 .1) _ (test .is-in .ensures) (not-false _ (inside .if1 .left)) _ (wide .with-resource .ensures) _ _ _ _ _ _
+          (sym (c .before .before .before .before .before .before .before .own .given .1) ∙ own .ordering-value .ensures .0 s shown)
+          (sym (c .before .nested .given .1) ∙ c .before .before .before .interference-sum .ensures .0 s shown),
+      record { most = omega arith; giver-most = omega arith },
+    )))
+    (λ t. tried-next-lts.spec
+    (first-greatest-below t, first-greatest.Post, without-task-reads.Asked, without-task-reads.Learnt, held-after-reads.Asked, held-after-reads.Learnt, largest-order-below t, largest-order.Post)
+    (tried-next-at t)
+    tried-next.Post
+    (λ c. search needs)
+    (λ c. (
+      λ s shown.
+          tried-not s _ _ _ shown _ _ _ _ _ _ _ _ (not-true _ (c .if1 .taken)),
+      record { most = omega arith; giver-most = omega arith },
+    ))
+    (λ c κs. let start = c .before .before in (omega (arith, start .pre .0), (start .pre .1 .0, omega arith, omega arith, omega arith)))
+    (λ c. search needs)
+    (λ c. search needs)
+    (λ c.
+    let best = c .before .before in (
+      λ s shown.
+          tried-out s _ _ _ shown _ _ _ _ _ _ _ _ (not-false _ (best .before .if1 .left)) (sym (c .enum-told .given .1) ∙ best .first-greatest .ensures .0 s shown),
+      tt,
+    ))
+    (λ c. search needs)
+    (λ c κs. search needs)
+    (λ c κs.
+    let best = c .before .before .before .before .before in
+    let fair = fair-of _ _ _ _ _ _ _ (c .before .before .before .best .given .1) (best .first-greatest .ensures .1) in
+    omega (arith, best .before .before .before .pre .1 .0 .count-most))
+    (λ c κs.
+    let best = c .before .before .before .before .before .before .before .before in
+    let start = best .before .before .before in
+    let fair = fair-of _ _ _ _ _ _ _ (c .before .before .before .before .before .before .best .given .1) (best .first-greatest .ensures .1) in
+    let facts = start .pre .1 in
+    (omega (arith, start .pre .0), (facts .0, omega (arith, facts), omega (arith, facts), omega (arith, facts))))
+    (λ c. search needs)
+    (λ c. search needs)
+    (λ c.
+    let call = c .before .before in
+    let sets = call .before .before .before in
+    let known = sets .before .before .before .before in
+    let best = known .before .before in
+    let fair = fair-of _ _ _ _ _ _ _ (known .best .given .1) (best .first-greatest .ensures .1) in (
+      λ s shown.
+          tried-later s _ _ _ shown _ _ _ _ _ _ _ _ (not-false _ (best .before .if1 .left)) _ _ _
+          (sym (known .best .given .1) ∙ best .first-greatest .ensures .0 s shown) (fair .giver-most) _
+          (sets .before .without-task .ensures) _ (sets .held-after .ensures)
+          (sym (c .enum-told2 .given .1) ∙ call .largest-order .ensures .0 s shown),
+      tt,
+    ))
+    (λ c.
+    let call = c .before .before .before in
+    let sets = call .before .before .before in
+    let known = sets .before .before .before .before in
+    let best = known .before .before in
+    let fair = fair-of _ _ _ _ _ _ _ (known .best .given .1) (best .first-greatest .ensures .1) in
+    let more = fair-of _ _ _ _ _ _ _ (c .before .rest .given .1) (call .largest-order .ensures .1) in
+    let facts = best .before .before .before .pre .1 in
+    record { fits = omega (arith, facts) })
+    (λ c.
+    let call = c .before .before .before in
+    let sets = call .before .before .before in
+    let known = sets .before .before .before .before in
+    let best = known .before .before in
+    let fair = fair-of _ _ _ _ _ _ _ (known .best .given .1) (best .first-greatest .ensures .1) in
+    let more = fair-of _ _ _ _ _ _ _ (c .before .rest .given .1) (call .largest-order .ensures .1) in (
+      λ s shown.
+          tried-of s _ _ _ shown _ _ _ _ _ _ _ _ (not-false _ (best .before .if1 .left)) _ _ _
+          (sym (known .best .given .1) ∙ best .first-greatest .ensures .0 s shown) (fair .giver-most) _
+          (sets .before .without-task .ensures) _ (sets .held-after .ensures)
+          _ _ _ (sym (c .before .rest .given .1) ∙ call .largest-order .ensures .0 s shown),
+      record { most = omega arith; giver-most = omega arith },
+    )))
+    (λ t. weigh-lts.spec
+    (is-on-reads.Asked, is-on-reads.Learnt, meets-reads.Asked, meets-reads.Learnt, with-task-reads.Asked, with-task-reads.Learnt, joined-reads.Asked, joined-reads.Learnt, interference-sum-below t, interference-sum.Post)
+    (weigh-at t)
+    weigh.Post
+    (λ c. search needs)
+    (λ c. search needs)
+    (λ c κs. search needs)
+    (λ c. (
+      λ s shown.
+          weigh-not s _ _ _ shown _ _ _ _ _ _ _ (omega arith) _ (c .before .is-on .ensures) (not-true _ (c .if1 .taken)),
+      record { most = omega arith; giver-most = omega arith },
+    ))
+    (λ c. (
+      λ s shown.
+          weigh-none s _ _ _ shown _ _ _ _ _ _ _ (omega arith) _ (c .before .before .is-on .ensures) (not-false _ (c .before .if1 .left)) (c .if2 .taken),
+      tt,
+    ))
+    (λ c. search needs)
+    (λ c. search needs)
+    (λ c. search needs)
+    (λ c κs. search needs)
+    (λ c.
+    let some = c .before .before .before in
+    let on = some .before in (
+      λ s shown.
+          weigh-met s _ _ _ shown _ _ _ _ _ _ _ (omega arith) _ (on .before .is-on .ensures) (not-false _ (on .if1 .left)) (some .if2 .left) _
+          (c .before .meets .ensures) (c .if3 .taken),
+      record { most = omega arith; giver-most = omega arith },
+    ))
+    (λ c κs. search needs)
+    (λ c. search needs)
+    (λ c. search needs)
+    (λ c κs. search needs)
+    (λ c. search needs)
+    (λ c κs.
+    let start = c .before .before .before .before .before .before .before .before .before .before .before .before in
+    let facts = start .pre .1 in
+    (omega (arith, start .pre .0), (facts .0, omega (arith, facts), omega arith, omega (arith, facts))))
+    (λ c. search needs)
+    (λ c. search needs)
+    (λ c.
+    let call = c .before .before in
+    let sets = call .before .before .before in
+    let wide = sets .before .before in
+    let apart = wide .before in
+    let some = apart .before .before .before in
+    let on = some .before in
+    let start = on .before .before .before in (
+      λ s shown.
+          weigh-out s _ _ _ shown _ _ _ _ _ _ _ (start .pre .1 .2) _ (on .before .is-on .ensures) (not-false _ (on .if1 .left)) (some .if2 .left) _
+          (apart .before .meets .ensures) (apart .if3 .left) _
+          (nested-is _ s (start .args .b .now) _ _ (start .args .i) _ _ _ (wide .with-task .ensures) (sets .joined .ensures))
+          (sym (c .enum-told .given .1) ∙ call .interference-sum .ensures .0 s shown),
+      tt,
+    ))
+    (λ c. search needs)
+    (λ c. search needs)
+    (λ c. search needs)
+    (λ c.
+    let call = c .before .before .before .before in
+    let start = call .before .before .before .before .before .before .before .before .before .before .before .before .before in
+    let more = fair-of _ _ _ _ _ _ _ (c .before .before .nested .given .1) (call .interference-sum .ensures .1) in
+    let facts = start .pre .1 in
+    let length = facts .0 .length-most _ (facts .2) in
+    record { fits = omega (arith, facts) })
+    (λ c.
+    let call = c .before .before .before .before in
+    let sets = call .before .before .before in
+    let wide = sets .before .before in
+    let apart = wide .before in
+    let some = apart .before .before .before in
+    let on = some .before in
+    let start = on .before .before .before in
+    let more = fair-of _ _ _ _ _ _ _ (c .before .before .nested .given .1) (call .interference-sum .ensures .1) in
+    let facts = start .pre .1 in
+    let length = facts .0 .length-most _ (facts .2) in (
+      λ s shown.
+          weigh-of s _ _ _ shown _ _ _ _ _ _ _ (start .pre .1 .2) _ (on .before .is-on .ensures) (not-false _ (on .if1 .left)) (some .if2 .left) _
+          (apart .before .meets .ensures) (apart .if3 .left) _
+          (nested-is _ s (start .args .b .now) _ _ (start .args .i) _ _ _ (wide .with-task .ensures) (sets .joined .ensures))
+          _ _ _ (sym (c .before .before .nested .given .1) ∙ call .interference-sum .ensures .0 s shown),
+      record { most = omega (arith, facts, some .if2 .left); giver-most = omega arith },
+    )))

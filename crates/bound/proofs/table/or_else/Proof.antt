@@ -1,0 +1,12 @@
+-- `bound::table::or_else` meets its contract. Assumes nothing.
+use borrow.Author.Needs.{needs}
+use Rattle.bound.proofs.Refusals.{or-told}
+use Rattle.bound.proofs.table.or_else.Statement.{statement}
+use Rattle.bound.proofs.table.or_else.Tie as tie
+
+pub or-else-spec : {M : Type 1} → statement M
+or-else-spec =
+    tie.close
+    (tie.spec
+    (λ c. search needs)
+    (λ c. or-told _ _ (c .if1 .left)))

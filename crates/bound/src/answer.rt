@@ -1,0 +1,37 @@
+// The interference bound of a task, with an allowance of weighings (01, "Interference bound"). Any table whatever is taken. Assumes nothing.
+ghost use mathlib.Core.Path.{_≡_};
+ghost use Rattle.bound.specs.Answer.{answer};
+use crate::Bounded;
+use crate::Sections;
+use crate::Tally;
+use crate::draw;
+use crate::interference;
+use crate::interference::Reach;
+use crate::sets;
+use crate::table;
+
+// "Start: outermost sections, B the task itself, R empty"
+pub fn bound(s: Sections, task: u16, allowance: u32) -> Bounded
+    ensures { λ r. ⌜ r ≡ answer s task allowance ⌝ }
+{
+    let number = table::refusal(s, task, allowance);
+    if number != 0 {
+        return Bounded::Refused(number);
+    }
+    let t = task as usize;
+    let rows = draw::rows(s);
+    let outers = draw::outers(&rows, s.count as usize);
+    let reach = Reach {
+        count: s.count as usize,
+        left: s.tasks as usize - 1,
+        depth: 12,
+    };
+    let nobody = [false; 6];
+    let itself = sets::with_task(&nobody, t);
+    let r = [false; 16];
+    let found = interference::interference_sum(&rows, &outers, reach, &itself, t, 0, &r, allowance);
+    let Tally::Of(value, _, left) = found else {
+        return Bounded::Refused(46);
+    };
+    Bounded::Bound(value, allowance - left)
+}

@@ -1,0 +1,7 @@
+pub mod Room
+pub mod Refusals
+pub mod Changes
+pub mod Rests
+pub mod Grounds
+pub mod Outcomes
+pub mod Unique

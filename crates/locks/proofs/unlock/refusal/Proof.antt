@@ -1,0 +1,52 @@
+-- `locks::unlock::refusal` meets its contract: a return for each test. Assumes nothing.
+use mathlib.Core.Path.{sym, _∙_}
+use borrow.Author.Needs.{needs}
+use borrow.Author.Tests.{not-true, not-false}
+use Rattle.locks.proofs.Refusals.{number-below, unlock-2, unlock-3, unlock-6, unlock-rest}
+use Rattle.locks.proofs.Grounds.{owner-stack}
+use Rattle.locks.proofs.unlock.refusal.Statement.{statement}
+use Rattle.locks.proofs.unlock.refusal.Tie as tie
+
+pub refusal-spec : {M : Type 1} → statement M
+refusal-spec =
+    tie.close
+    (tie.spec
+    (λ c. search needs)
+    (λ c κs. search needs)
+    (λ c. unlock-2 _ _ _ (sym (c .before .in-use .ensures) ∙ not-true _ (c .if1 .taken)))
+    (λ c κs. search needs)
+    (λ c.
+    let task = c .before .before in
+    unlock-3 _ _ _ (sym (task .before .in-use .ensures) ∙ not-false _ (task .if1 .left)) (sym (c .before .in-use2 .ensures) ∙ not-true _ (c .if2 .taken)))
+    (λ c. search needs)
+    (λ c.
+    let task = c .before .before in
+    number-below _ _ (sym (task .before .in-use .ensures) ∙ not-false _ (task .if1 .left)))
+    (λ c κs. search needs)
+    (λ c.
+    let resource = c .before .before .before in
+    let task = resource .before .before in
+    unlock-6 _ _ _
+    (sym (task .before .in-use .ensures) ∙ not-false _ (task .if1 .left))
+    (sym (resource .before .in-use2 .ensures) ∙ not-false _ (resource .if2 .left))
+    (sym (c .before .is-placed .ensures) ∙ not-true _ (c .if3 .taken)))
+    (λ c. search needs)
+    (λ c.
+    let resource = c .before .before .before in
+    number-below _ _ (sym (resource .before .in-use2 .ensures) ∙ not-false _ (resource .if2 .left)))
+    (λ c κs.
+    let resource = c .before .before .before .before in
+    let task = resource .before .before in
+    owner-stack _ _ _
+    (task .before .before .before .pre)
+    (sym (task .before .in-use .ensures) ∙ not-false _ (task .if1 .left))
+    (sym (resource .before .in-use2 .ensures) ∙ not-false _ (resource .if2 .left)))
+    (λ c.
+    let runs = c .before .before in
+    let resource = runs .before .before .before in
+    let task = resource .before .before in
+    unlock-rest _ _ _ _
+    (sym (task .before .in-use .ensures) ∙ not-false _ (task .if1 .left))
+    (sym (resource .before .in-use2 .ensures) ∙ not-false _ (resource .if2 .left))
+    (sym (runs .before .is-placed .ensures) ∙ not-false _ (runs .if3 .left))
+    (c .release .ensures)))

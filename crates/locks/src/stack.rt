@@ -1,0 +1,47 @@
+// The stack of resources that a task holds: its first `depth` places, the latest last. A place that is given up is set to 0.
+// Assumes that there is room, or that there is something to give up.
+ghost use mathlib.Core.Path.{_≡_};
+ghost use Prim.Native.Nat.{_<_, _≤_};
+ghost use Rattle.model.specs.Events.{pushed, popped, withMode};
+use model::Mode;
+use model::Task;
+
+// With r on top.
+pub fn pushed(r: u16, task: Task) -> Task
+    requires { ⌜ task .depth < 16 ⌝ }
+    ensures { λ k. ⌜ k ≡ pushed r task ⌝ }
+{
+    let top = task.depth as usize;
+    let mut after = task;
+    after.held[top] = r;
+    after.depth = task.depth + 1;
+    after
+}
+
+// With its top given up.
+pub fn popped(task: Task) -> Task
+    requires { ⌜ (0 < task .depth) × (task .depth ≤ 16) ⌝ }
+    ensures { λ k. ⌜ k ≡ popped task ⌝ }
+{
+    let left = task.depth - 1;
+    let top = left as usize;
+    let mut after = task;
+    after.held[top] = 0;
+    after.depth = left;
+    after
+}
+
+pub fn with_mode(mode: Mode, task: Task) -> Task
+    ensures { λ k. ⌜ k ≡ withMode mode task ⌝ }
+{
+    let runs = task.runs;
+    let held = task.held;
+    Task {
+        mode,
+        runs,
+        declared: task.declared,
+        depth: task.depth,
+        executed: task.executed,
+        held,
+    }
+}

@@ -1,0 +1,35 @@
+-- `servers::suspend::suspend` meets its contract. Assumes nothing.
+use borrow.Author.Needs.{needs}
+use Rattle.laws.specs.Tests.{firstOf}
+use Rattle.model.specs.State.{here, executing}
+use Rattle.model.specs.Step.{stateAfter, attempted}
+use Rattle.model.proofs.Chain.{here-below}
+use Rattle.servers.specs.Serving.{turns, turnedState}
+use Rattle.servers.proofs.Outcomes.{told-no, told-yes}
+use Rattle.servers.proofs.suspend.suspend.Statement.{statement}
+use Rattle.servers.proofs.suspend.suspend.Tie as tie
+
+pub suspend-spec : {M : Type 1} → statement M
+unfolding here executing firstOf attempted stateAfter turns turnedState
+suspend-spec =
+    tie.close
+    (tie.spec
+    (λ c. search needs)
+    (λ c κs. search needs)
+    (λ c κs. search needs)
+    (λ c. rw (told-no (c .before .before .in-use .ensures) (c .before .if1 .taken)) (c .refused .ensures))
+    (λ c. search needs)
+    (λ c. here-below (c .before .before .before .args .t1) _ (told-yes (c .before .in-use .ensures) (c .if1 .left)))
+    (λ c κs. search needs)
+    (λ c κs. search needs)
+    (λ c.
+    let tested = c .before .before in
+    let used = tested .before .before in
+    rw (told-yes (used .before .in-use .ensures) (used .if1 .left), told-no (tested .is-placed .ensures) (c .before .if2 .taken)) (c .refused2 .ensures))
+    (λ c κs.
+    let used = c .before .before .before in
+    (told-yes (used .before .in-use .ensures) (used .if1 .left), λ i h. tt))
+    (λ c.
+    let tested = c .before .before in
+    let used = tested .before .before in
+    rw (told-yes (used .before .in-use .ensures) (used .if1 .left), told-yes (tested .is-placed .ensures) (c .before .if2 .left)) (c .turn-task .ensures)))

@@ -1,0 +1,97 @@
+-- What the code of fresh cites: its answer task by task, and an entry of the arrays that it makes. Assumes nothing.
+use mathlib.Core.Path.{_≡_, refl, sym, ap, ap₂, _∙_}
+use mathlib.Core.Bool.{true, false, _&&_}
+use mathlib.Core.Option.{Option, none, some}
+use Prim.Native.Nat.{ℕ, _+_, _<_, _≤_}
+use native.Mathlib.Numerals.{add-one}
+use native.Mathlib.Omega.{arith}
+use lib.Dec.{leb}
+use borrow.Author.Tests.{lt-ltb, le-ltb, leb-true}
+use Rattle.laws.specs.Tests.{_orElse_, firstOf, accepted}
+use Rattle.laws.specs.Loops.{foldTo}
+use Rattle.laws.proofs.Fold.{turns-done, fold-keeps}
+use Rattle.laws.proofs.Cases.{and-right}
+use Rattle.model.specs.declared.Entry.{Entry}
+use Rattle.model.specs.declared.Table.{Table}
+use Rattle.model.specs.declared.State.{State}
+use Rattle.model.specs.declared.FreshOutcome.{FreshOutcome}
+use Rattle.model.specs.declared.FreshAnswer.{FreshAnswer}
+use Rattle.model.specs.declared.FreshAnswer.the-variants.{Made, Refused}
+use Rattle.model.specs.Sound.{countsFit, quotaFits, declaredFits}
+use Rattle.model.specs.Fresh.{entryAt, countsRefusal, entryRefusal, taskRefusal, freshRefusal, freshState, unusable, freshOf}
+use Rattle.model.specs.Said.{saidFresh}
+use Rattle.soundness.specs.Start.{answerOf, firstAnswer, freshSays}
+
+first-or : (x y : Option ℕ) → firstAnswer (answerOf x) (answerOf y) ≡ answerOf (x orElse y)
+first-or none y = refl
+first-or (some n) y = refl
+
+or-none : (x : Option ℕ) → (x orElse none) ≡ x
+or-none none = refl
+or-none (some n) = refl
+
+-- the refusal after the first i tasks
+unfoldable pub refusalTo : Table → ℕ → Option ℕ
+refusalTo tb i = foldTo i (taskRefusal tb) none
+
+-- a task in the table, and one past its tasks
+pub answer-more
+    : (tb : Table) (i : ℕ) (a b r : FreshAnswer)
+    → i < tb .tasks
+    → a ≡ answerOf (refusalTo tb i)
+    → b ≡ answerOf (entryRefusal (tb .resources) (entryAt tb i))
+    → r ≡ firstAnswer a b
+    → r ≡ answerOf (refusalTo tb (i + 1))
+unfolding foldTo taskRefusal refusalTo
+answer-more tb i a b r l p q e = rw (add-one, lt-ltb i (tb .tasks) l) (e ∙ ap₂ firstAnswer p q ∙ first-or (refusalTo tb i) (entryRefusal (tb .resources) (entryAt tb i)))
+
+pub answer-skip : (tb : Table) (i : ℕ) (a : FreshAnswer) → tb .tasks ≤ i → a ≡ answerOf (refusalTo tb i) → a ≡ answerOf (refusalTo tb (i + 1))
+unfolding foldTo taskRefusal refusalTo
+answer-skip tb i a l p = rw (add-one, le-ltb i (tb .tasks) l, or-none) p
+
+-- counts that do not fit are told first, and whatever the tasks say
+pub counts-refused : (tb : Table) → countsFit (tb .processors) (tb .tasks) (tb .resources) ≡ false → freshRefusal tb ≡ some 19
+unfolding freshRefusal countsRefusal taskRefusal firstOf
+counts-refused tb e = rw e (fold-keeps (λ x. x ≡ some 19) (taskRefusal tb) 16 (λ i l x p. rw p) (some 19) refl)
+
+counts-accepted : (tb : Table) → countsFit (tb .processors) (tb .tasks) (tb .resources) ≡ true → refusalTo tb 16 ≡ freshRefusal tb
+unfolding freshRefusal countsRefusal firstOf refusalTo
+counts-accepted tb e = rw e refl
+
+pub counts-resources : (tb : Table) → countsFit (tb .processors) (tb .tasks) (tb .resources) ≡ true → tb .resources ≤ 16
+counts-resources tb e = leb-true (tb .resources) 16 (and-right (leb 1 (tb .processors) && leb (tb .processors) 8 && leb 1 (tb .tasks) && leb (tb .tasks) 16) _ e)
+
+pub answer-none : (tb : Table) → Made ≡ answerOf (refusalTo tb 0)
+unfolding refusalTo foldTo
+answer-none tb = refl
+
+pub answer-done
+    : (tb : Table) (i : ℕ) (a : FreshAnswer)
+    → countsFit (tb .processors) (tb .tasks) (tb .resources) ≡ true
+    → i ≤ 16
+    → 16 ≤ i
+    → a ≡ answerOf (refusalTo tb i)
+    → a ≡ answerOf (freshRefusal tb)
+answer-done tb i a e l g p = turns-done (λ n. answerOf (refusalTo tb n)) i 16 a l g p ∙ ap answerOf (counts-accepted tb e)
+
+-- what fresh gives back, and says, where its answer is known
+made-none : (x : Option ℕ) → Made ≡ answerOf x → x ≡ none
+made-none none e = refl
+made-none (some n) e = let z : _≡_ {A = ℕ} 0 1 = cc in absurd (omega arith)
+
+refused-some : (x : Option ℕ) (n : ℕ) → Refused n ≡ answerOf x → x ≡ some n
+refused-some none n e = let z : _≡_ {A = ℕ} 0 1 = cc in absurd (omega arith)
+refused-some (some m) n e = cc
+
+-- an outcome, and what its answer says
+abbrev pub Tells : Table → FreshOutcome → Type 0
+Tells tb o = (o ≡ freshOf tb) × (saidFresh (o .answer) ≡ freshSays (freshRefusal tb))
+
+pub fresh-made : (tb : Table) (st : State) → Made ≡ answerOf (freshRefusal tb) → st ≡ freshState tb → Tells tb (record { answer = Made; state = st })
+unfolding freshOf
+fresh-made tb st e s = rw (made-none (freshRefusal tb) e) ((λ i. record { answer = Made; state = s i }), refl)
+
+pub fresh-refused
+    : (tb : Table) (n : ℕ) (st : State) → Refused n ≡ answerOf (freshRefusal tb) → st ≡ unusable → Tells tb (record { answer = Refused n; state = st })
+unfolding freshOf
+fresh-refused tb n st e s = rw (refused-some (freshRefusal tb) n e) ((λ i. record { answer = Refused n; state = s i }), refl)

@@ -1,0 +1,9 @@
+pub mod Answers
+pub mod Sums
+pub mod Agree
+pub mod Facts
+pub mod Passed
+pub mod Same
+pub mod Turns
+pub mod Fresh
+pub mod Unique

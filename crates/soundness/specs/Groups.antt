@@ -1,0 +1,129 @@
+-- Soundness as the code tests it: sizes, then tasks, resources and servers, each group in one pass. Where the definition asks of each task and each
+-- resource whether a stack or queue agrees, these ask of each entry, and compare totals; proofs/Same.antt says that it comes to the same.
+-- Assumes nothing.
+use mathlib.Core.Bool.{Bool, true, false, not, _&&_}
+use mathlib.Core.List.{List}
+use Prim.Native.Nat.{ℕ, _+_}
+use lib.Dec.{ltb, leb, eqb}
+use lib.ListN.{getD}
+use Rattle.laws.specs.Tests.{if_then_else_, _iff_}
+use Rattle.laws.specs.Loops.{sumTo}
+use Rattle.model.specs.declared.Phase.{Phase}
+use Rattle.model.specs.declared.Phase.the-variants.{Idle, Active, Running, Recharging}
+use Rattle.model.specs.declared.Mode.{Mode}
+use Rattle.model.specs.declared.Mode.the-variants.{Suspended, Ready, Waiting}
+use Rattle.model.specs.declared.Runs.{Runs}
+use Rattle.model.specs.declared.Runs.the-variants.{Nowhere, In}
+use Rattle.model.specs.declared.Owner.{Owner}
+use Rattle.model.specs.declared.Owner.the-variants.{Nobody, By}
+use Rattle.model.specs.declared.Server.{Server}
+use Rattle.model.specs.declared.Task.{Task}
+use Rattle.model.specs.declared.Resource.{Resource}
+use Rattle.model.specs.declared.State.{State}
+use Rattle.model.specs.State.{places, nobody, serverAt, taskAt, resourceAt, inUse, here, present, inSet, recharging, suspended, awaited, placed, ownerOf, next, served, runningAt}
+use Rattle.model.specs.Sound.{each, eachResource, quotaFits, declaredFits, sizesFit}
+use Rattle.chain.specs.Arrays.{arrayOf, ownersOf, atOrNobody}
+use Rattle.soundness.specs.Members.{membersFit, numbersOf, usedIn}
+
+-- what each task in use waits for
+unfoldable pub wanted : State → ℕ → ℕ
+wanted st t = if here st t then awaited (taskAt st t .mode) else nobody
+
+unfoldable pub wantedOf : State → List ℕ
+wantedOf st = arrayOf (wanted st)
+
+-- the links that this makes with the owners
+unfoldable pub linkAt : List ℕ → List ℕ → ℕ → ℕ
+linkAt owners wants t = atOrNobody owners (getD wants t 0)
+
+unfoldable pub linksBy : List ℕ → List ℕ → List ℕ
+linksBy owners wants = arrayOf (linkAt owners wants)
+
+-- whom each Running server serves
+unfoldable pub runsFor : State → ℕ → ℕ
+runsFor st s = if runningAt st s then served st s else nobody
+
+unfoldable pub runsForOf : State → List ℕ
+runsForOf st = arrayOf (runsFor st)
+
+-- a task: accounts, declared set, what it waits for, its stack
+abbrev pub waitPasses : ℕ → ℕ → Mode → Bool
+waitPasses resources declared Suspended = true
+waitPasses resources declared Ready = true
+waitPasses resources declared (Waiting r) = inUse resources r && inSet declared r
+
+unfoldable pub taskPasses : ℕ → ℕ → List ℕ → ℕ → Task → Bool
+taskPasses resources clock owners t k =
+    leb (k .executed) clock
+    && declaredFits resources (k .declared)
+    && waitPasses resources (k .declared) (k .mode)
+    && membersFit (k .held) (k .depth) (k .declared) owners t
+
+unfoldable pub taskPassesAt : State → ℕ → Bool
+taskPassesAt st t = taskPasses (st .resources) (st .clock) (ownersOf st) t (taskAt st t)
+
+unfoldable pub depthAt : State → ℕ → ℕ
+depthAt st t = if here st t then taskAt st t .depth else 0
+
+-- as many entries in stacks as owned resources
+unfoldable pub tasksPass : State → Bool
+tasksPass st = each st (taskPassesAt st) && eqb (sumTo places (depthAt st)) (usedIn (ownersOf st))
+
+-- a resource: its owner (nobody where the owner is not in use) and its queue
+abbrev pub ownerPasses : ℕ → ℕ → Owner → Bool
+ownerPasses inForce waiting Nobody = eqb waiting 0
+ownerPasses inForce waiting (By t) = ltb inForce places
+
+-- every bit: a queue has no set
+abbrev pub everyBit : ℕ
+everyBit = 65535
+
+unfoldable pub resourcePasses : ℕ → List ℕ → ℕ → Resource → Bool
+resourcePasses inForce wants r x =
+    ownerPasses inForce (x .waiting) (x .owner) && membersFit (numbersOf (x .queue)) (x .waiting) everyBit wants r
+
+unfoldable pub resourcePassesAt : State → ℕ → Bool
+resourcePassesAt st r = resourcePasses (ownerOf st r) (wantedOf st) r (resourceAt st r)
+
+unfoldable pub lengthAt : State → ℕ → ℕ
+lengthAt st r = if present st r then resourceAt st r .waiting else 0
+
+-- as many entries in queues as waiting tasks
+unfoldable pub resourcesPass : State → Bool
+resourcesPass st = eachResource st (resourcePassesAt st) && eqb (sumTo places (lengthAt st)) (usedIn (wantedOf st))
+
+-- a server: its own numbers,
+abbrev pub serverFits : ℕ → Server → Bool
+serverFits clock s =
+    quotaFits (s .quota) (s .period)
+    && leb (s .deadline) (clock + s .period)
+    && leb (s .budget) (s .quota)
+    && (eqb (s .budget) 0 iff recharging (s .phase))
+    && leb (s .own + s .lent + s .spin) clock
+
+-- its phase against the mode and place of the task that it serves,
+abbrev pub servesPasses : Phase → Mode → Runs → Bool
+servesPasses Idle mode runs = suspended mode
+servesPasses Active mode runs = not (suspended mode)
+servesPasses Running mode runs = placed runs && not (suspended mode)
+servesPasses Recharging mode runs = true
+
+-- and whether a link leads on from that task, `last`
+unfoldable pub serverPasses : ℕ → Server → ℕ → Task → Bool
+serverPasses clock s link last = serverFits clock s && leb places link && servesPasses (s .phase) (last .mode) (last .runs)
+
+-- its own task executes only where it is served
+abbrev pub executesPasses : List ℕ → ℕ → Runs → Bool
+executesPasses runsBy t Nowhere = true
+executesPasses runsBy t (In s) = eqb (atOrNobody runsBy (s .0)) t
+
+unfoldable pub serverPassesAt : State → ℕ → Bool
+serverPassesAt st i =
+    serverPasses (st .clock) (serverAt st i) (next st (served st i)) (taskAt st (served st i))
+    && executesPasses (runsForOf st) i (taskAt st i .runs)
+
+unfoldable pub serversPass : State → Bool
+serversPass st = leb (usedIn (runsForOf st)) (st .processors) && each st (serverPassesAt st)
+
+unfoldable pub passes : State → Bool
+passes st = sizesFit st && tasksPass st && resourcesPass st && serversPass st

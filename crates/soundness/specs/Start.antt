@@ -1,0 +1,20 @@
+-- What fresh answers, from the number of its refusal if it has one. Assumes nothing.
+use mathlib.Core.Option.{Option, none, some}
+use Prim.Native.Nat.{ℕ}
+use Rattle.model.specs.declared.FreshAnswer.{FreshAnswer}
+use Rattle.model.specs.declared.FreshAnswer.the-variants.{Made, Refused}
+use Rattle.model.specs.Said.{Word, ok, refused}
+
+abbrev pub answerOf : Option ℕ → FreshAnswer
+answerOf none = Made
+answerOf (some n) = Refused n
+
+-- the first of two answers that is a refusal
+abbrev pub firstAnswer : FreshAnswer → FreshAnswer → FreshAnswer
+firstAnswer Made later = later
+firstAnswer (Refused n) later = Refused n
+
+-- in document 01's words
+abbrev pub freshSays : Option ℕ → Word × ℕ
+freshSays none = (ok, 0)
+freshSays (some n) = (refused, n)

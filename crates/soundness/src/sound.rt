@@ -1,0 +1,122 @@
+// The soundness test: document 01, "A state is sound when". Sizes first, so that the rest knows them; then tasks with their stacks, resources with
+// their queues, and servers with the chains. A state goes to six functions, each with its own loop, and to no loop. Assumes nothing.
+ghost use mathlib.Core.Path.{_≡_};
+ghost use Prim.Native.Nat.{_≤_};
+ghost use mathlib.Core.Bool.{_&&_};
+ghost use lib.Dec.{leb};
+ghost use Rattle.model.specs.Sound.{countsFit, clockLimit, each, sound};
+ghost use Rattle.chain.specs.Arrays.{ownersOf, nextsOf, endsOf};
+ghost use Rattle.soundness.specs.Groups.{wantedOf, runsForOf, tasksPass, resourcesPass, serverPassesAt, serversPass};
+use model::State;
+
+// "sizes .. in range"
+fn sizes_fit(processors: u16, tasks: u16, resources: u16, clock: u32) -> bool
+    ensures { λ r. ⌜ r ≡ (countsFit processors tasks resources && leb clock clockLimit) ⌝ }
+{
+    model::entries::both(
+        crate::limits::counts_fit(processors, tasks, resources),
+        clock <= 4000000000,
+    )
+}
+
+// Each task in use, and as many entries in stacks as owned resources.
+fn tasks_pass(st: State, owners: &[usize; 16]) -> bool
+    requires { ⌜ (now owners ≡ ownersOf st) × (st .resources ≤ 16) ⌝ }
+    ensures { λ r. ⌜ r ≡ tasksPass st ⌝ }
+{
+    let tasks = st.task;
+    let mut total: u16 = 0;
+    for t in 0..16usize {
+        if model::entries::in_use(st.tasks, t) {
+            let task = tasks[t];
+            if !crate::entries::task_passes(st.resources, st.clock, owners, t, task) {
+                return false;
+            }
+            total += task.depth;
+        }
+    }
+    total == crate::lists::used(owners)
+}
+
+// Each resource in use, and as many entries in queues as waiting tasks.
+fn resources_pass<'a>(st: State, owners: &'a [usize; 16], wants: &'a [usize; 16]) -> bool
+    requires { ⌜ (now owners ≡ ownersOf st) × (now wants ≡ wantedOf st) ⌝ }
+    ensures { λ r. ⌜ r ≡ resourcesPass st ⌝ }
+{
+    let resources = st.resource;
+    let mut total: u16 = 0;
+    for r in 0..16usize {
+        if model::entries::in_use(st.resources, r) {
+            let resource = resources[r];
+            let owner = owners[r];
+            if !crate::entries::resource_passes(owner, wants, r, resource) {
+                return false;
+            }
+            total += resource.waiting;
+        }
+    }
+    total == crate::lists::used(wants)
+}
+
+// Each server in use: its own numbers, its chain, the task that it serves, and where its own task executes.
+fn servers_pass<'a>(
+    st: State,
+    links: &'a [usize; 16],
+    ends: &'a [usize; 16],
+    runs_by: &'a [usize; 16],
+) -> bool
+    requires { ⌜ (now links ≡ nextsOf st) × (now ends ≡ endsOf st) × (now «runs_by» ≡ runsForOf st) ⌝ }
+    ensures { λ r. ⌜ r ≡ each st (serverPassesAt st) ⌝ }
+{
+    let servers = st.server;
+    let tasks = st.task;
+    for i in 0..16usize {
+        if model::entries::in_use(st.tasks, i) {
+            let server = servers[i];
+            let task = tasks[i];
+            let end = ends[i];
+            let last = tasks[end];
+            let link = links[end];
+            if !crate::entries::server_passes(st.clock, server, link, last) {
+                return false;
+            }
+            let runs = task.runs;
+            if !crate::entries::executes_passes(runs_by, i, runs) {
+                return false;
+            }
+        }
+    }
+    true
+}
+
+// The links, the chain ends and whom the servers run for; as many running as there are processors, and each server.
+fn chains_pass<'a>(st: State, owners: &'a [usize; 16], wants: &'a [usize; 16]) -> bool
+    requires { ⌜ (now owners ≡ ownersOf st) × (now wants ≡ wantedOf st) ⌝ }
+    ensures { λ r. ⌜ r ≡ serversPass st ⌝ }
+{
+    let links = crate::arrays::links(owners, wants);
+    let ends = chain::walk::ends(&links);
+    let runs_by = crate::arrays::runs_for(st, &ends);
+    if crate::lists::used(&runs_by) > st.processors {
+        return false;
+    }
+    servers_pass(st, &links, &ends, &runs_by)
+}
+
+// Whether a state is sound, whatever it is.
+pub fn is_sound(st: State) -> bool
+    ensures { λ r. ⌜ r ≡ sound st ⌝ }
+{
+    if !sizes_fit(st.processors, st.tasks, st.resources, st.clock) {
+        return false;
+    }
+    let owners = chain::links::owners(st);
+    if !tasks_pass(st, &owners) {
+        return false;
+    }
+    let wants = crate::arrays::wanted(st);
+    if !resources_pass(st, &owners, &wants) {
+        return false;
+    }
+    chains_pass(st, &owners, &wants)
+}

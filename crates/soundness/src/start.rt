@@ -1,0 +1,180 @@
+// The fresh state of a table: document 01, "Fresh", and refusals 19 to 21 in its order. Rows past the table's tasks are not read. Assumes nothing.
+ghost use mathlib.Core.Path.{_≡_};
+ghost use Prim.Native.Nat.{_≤_};
+ghost use Rattle.model.specs.Fresh.{entryRefusal, freshRefusal, blankServer, blankTask, blankResource, freshServer, freshTask, freshState, unusable, freshOf};
+ghost use Rattle.model.specs.Said.{saidFresh};
+ghost use Rattle.soundness.specs.Start.{answerOf, firstAnswer, freshSays};
+use model::Entry;
+use model::FreshAnswer;
+use model::FreshOutcome;
+use model::Mode;
+use model::Owner;
+use model::Phase;
+use model::Resource;
+use model::Runs;
+use model::Server;
+use model::State;
+use model::Table;
+use model::Task;
+use model::TaskNo;
+
+// "servers Idle with budget Q and deadline 0, .. and accounts 0"
+fn fresh_server(entry: Entry) -> Server
+    ensures { λ r. ⌜ r ≡ freshServer entry ⌝ }
+{
+    Server {
+        phase: Phase::Idle,
+        budget: entry.quota,
+        deadline: 0,
+        quota: entry.quota,
+        period: entry.period,
+        own: 0,
+        lent: 0,
+        spin: 0,
+    }
+}
+
+// "all tasks suspended"
+fn fresh_task(entry: Entry) -> Task
+    ensures { λ r. ⌜ r ≡ freshTask entry ⌝ }
+{
+    let held = [0u16; 16];
+    Task {
+        mode: Mode::Suspended,
+        runs: Runs::Nowhere,
+        declared: entry.declared,
+        depth: 0,
+        executed: 0,
+        held: held,
+    }
+}
+
+fn blank_resource() -> Resource
+    ensures { λ r. ⌜ r ≡ blankResource ⌝ }
+{
+    let none = TaskNo(0);
+    let queue = [none; 16];
+    Resource {
+        owner: Owner::Nobody,
+        waiting: 0,
+        queue: queue,
+    }
+}
+
+// "no processors, no tasks, no resources and the rest as in entries past the counts"
+fn unusable_state() -> State
+    ensures { λ r. ⌜ r ≡ unusable ⌝ }
+{
+    let past = Entry {
+        quota: 0,
+        period: 0,
+        declared: 0,
+    };
+    let server = fresh_server(past);
+    let task = fresh_task(past);
+    let resource = blank_resource();
+    let servers = [server; 16];
+    let tasks = [task; 16];
+    let resources = [resource; 16];
+    State {
+        processors: 0,
+        tasks: 0,
+        resources: 0,
+        clock: 0,
+        server: servers,
+        task: tasks,
+        resource: resources,
+    }
+}
+
+// The state of a table that is not refused.
+fn fresh_state(tb: Table) -> State
+    ensures { λ r. ⌜ r ≡ freshState tb ⌝ }
+{
+    let past = unusable_state();
+    let mut servers = past.server;
+    let mut tasks = past.task;
+    let resources = past.resource;
+    let count = tb.tasks as usize;
+    for i in 0..16usize {
+        if i < count {
+            let entry = tb.entry[i];
+            servers[i] = fresh_server(entry);
+            tasks[i] = fresh_task(entry);
+        }
+    }
+    State {
+        processors: tb.processors,
+        tasks: tb.tasks,
+        resources: tb.resources,
+        clock: 0,
+        server: servers,
+        task: tasks,
+        resource: resources,
+    }
+}
+
+// "20, 21 .. Q or P; declared resource absent", "20 before 21"
+fn entry_answer(resources: u16, entry: Entry) -> FreshAnswer
+    requires { ⌜ resources ≤ 16 ⌝ }
+    ensures { λ r. ⌜ r ≡ answerOf (entryRefusal resources entry) ⌝ }
+{
+    if !crate::limits::quota_fits(entry.quota, entry.period) {
+        return FreshAnswer::Refused(20);
+    }
+    if !crate::limits::declared_fits(resources, entry.declared) {
+        return FreshAnswer::Refused(21);
+    }
+    FreshAnswer::Made
+}
+
+fn first_answer(earlier: FreshAnswer, later: FreshAnswer) -> FreshAnswer
+    ensures { λ r. ⌜ r ≡ firstAnswer earlier later ⌝ }
+{
+    match earlier {
+        FreshAnswer::Made => later,
+        FreshAnswer::Refused(n) => FreshAnswer::Refused(n),
+    }
+}
+
+// "For fresh, 19, then tasks in order"
+fn table_answer(tb: Table) -> FreshAnswer
+    ensures { λ r. ⌜ r ≡ answerOf (freshRefusal tb) ⌝ }
+{
+    let resources = tb.resources;
+    if !crate::limits::counts_fit(tb.processors, tb.tasks, resources) {
+        return FreshAnswer::Refused(19);
+    }
+    let count = tb.tasks as usize;
+    let mut answer = FreshAnswer::Made;
+    for i in 0..16usize {
+        if i < count {
+            let entry = tb.entry[i];
+            answer = first_answer(answer, entry_answer(resources, entry));
+        }
+    }
+    answer
+}
+
+// The fresh state of a table, or the number of its refusal and no state of use.
+pub fn fresh(tb: Table) -> FreshOutcome
+    ensures { λ r. ⌜ (r ≡ freshOf tb) × (saidFresh (r .answer) ≡ freshSays (freshRefusal tb)) ⌝ }
+{
+    let answer = table_answer(tb);
+    match answer {
+        FreshAnswer::Made => {
+            let state = fresh_state(tb);
+            FreshOutcome {
+                answer: FreshAnswer::Made,
+                state: state,
+            }
+        }
+        FreshAnswer::Refused(n) => {
+            let state = unusable_state();
+            FreshOutcome {
+                answer: FreshAnswer::Refused(n),
+                state: state,
+            }
+        }
+    }
+}

@@ -1,0 +1,2 @@
+// One event at a time: the layer's entry point. It takes any state whatever and any event.
+pub mod step;
