@@ -1,2 +1,5 @@
 pub mod Text
 pub mod Listing
+pub mod Replay
+pub mod Writing
+pub mod Parts

@@ -1,0 +1,29 @@
+-- What `replay` answers and what it leaves in the buffer lent to it. Assumes nothing.
+use mathlib.Core.List.{List}
+use Prim.Native.Nat.{ℕ, _+_, _*_}
+use lib.Dec.{leb}
+use lib.ListN.{length}
+use lib.Seq.{sets}
+use Rattle.laws.specs.Tests.{if_then_else_}
+use Rattle.model.specs.Said.{Word, ok, refused}
+use Rattle.listing.specs.declared.Replayed.{Replayed}
+use Rattle.listing.specs.declared.Replayed.the-variants.{Written, TooShort}
+use Rattle.listing.specs.Listing.{listing}
+
+-- How long a buffer must be for a file of so many bytes: an event's line has at most 51 bytes, its record 4 or more, and the lines after `end` have
+-- at most 3,081 (law `listing-fits`).
+unfoldable pub room : ℕ → ℕ
+room n = 13 * n + 4000
+
+-- the answer, from the file and the length of the buffer
+unfoldable pub replayed : List ℕ → ℕ → Replayed
+replayed file lent = if leb (room (length file)) lent then Written (length (listing file)) else TooShort
+
+-- the buffer afterwards: the whole text and, after it, what stood there; a buffer that is too short stays as it was
+unfoldable pub bufferAfter : List ℕ → List ℕ → List ℕ
+bufferAfter file lent = if leb (room (length file)) (length lent) then sets lent 0 (listing file) else lent
+
+-- document 01 has no number for a buffer that is too short: it is told as `refused` and 0
+abbrev pub saidReplayed : Replayed → Word × ℕ
+saidReplayed (Written n) = (ok, n)
+saidReplayed TooShort = (refused, 0)

@@ -1,0 +1,118 @@
+// What stands after the events where a trace is good to its end: `end` and the clock, then a line for each server and for each task. Each function
+// is given a buffer that has room for the longest text that it can write.
+ghost use Prim.Native.Nat.{_+_, _≤_};
+ghost use lib.ListN.{length};
+ghost use Rattle.laws.specs.Loops.{joinTo};
+ghost use Rattle.listing.specs.Text.{phaseWord};
+ghost use Rattle.listing.specs.Listing.{serverLine, taskLine, endLines};
+ghost use Rattle.listing.specs.Parts.{stateText, budgetText, accountsText, serverText, taskText};
+ghost use Rattle.listing.specs.Writing.{Wrote};
+use crate::numbers::put_field;
+use crate::numbers::put_line;
+use crate::numbers::put_named;
+use crate::numbers::put_text;
+use model::Phase;
+use model::Server;
+use model::State;
+
+fn put_phase(out: &mut [u8], at: usize, phase: Phase) -> usize
+    requires { ⌜ at + 10 ≤ length (now out) ⌝ }
+    ensures { λ r. ⌜ Wrote 10 (now (out .entry)) at (phaseWord phase) (now (out .exit)) r ⌝ }
+{
+    match phase {
+        Phase::Idle => put_text(out, at, b"idle"),
+        Phase::Active => put_text(out, at, b"active"),
+        Phase::Running => put_text(out, at, b"running"),
+        Phase::Recharging => put_text(out, at, b"recharging"),
+    }
+}
+
+// "`server`, number, state"
+fn put_server_state(out: &mut [u8], at: usize, s: usize, phase: Phase) -> usize
+    requires { ⌜ at + 38 ≤ length (now out) ⌝ }
+    ensures { λ r. ⌜ Wrote 38 (now (out .entry)) at (stateText s phase) (now (out .exit)) r ⌝ }
+{
+    let mut next = put_named(out, at, b"server", s);
+    next = put_text(out, next, b" ");
+    put_phase(out, next, phase)
+}
+
+// "`server`, number, state, budget, deadline"
+fn put_server_budget(out: &mut [u8], at: usize, s: usize, server: Server) -> usize
+    requires { ⌜ at + 80 ≤ length (now out) ⌝ }
+    ensures { λ r. ⌜ Wrote 80 (now (out .entry)) at (budgetText s server) (now (out .exit)) r ⌝ }
+{
+    let phase = server.phase;
+    let mut next = put_server_state(out, at, s, phase);
+    next = put_field(out, next, server.budget as usize);
+    put_field(out, next, server.deadline as usize)
+}
+
+// The same with "own, lent, spin".
+fn put_server_accounts(out: &mut [u8], at: usize, s: usize, server: Server) -> usize
+    requires { ⌜ at + 143 ≤ length (now out) ⌝ }
+    ensures { λ r. ⌜ Wrote 143 (now (out .entry)) at (accountsText s server) (now (out .exit)) r ⌝ }
+{
+    let mut next = put_server_budget(out, at, s, server);
+    next = put_field(out, next, server.own as usize);
+    next = put_field(out, next, server.lent as usize);
+    put_field(out, next, server.spin as usize)
+}
+
+fn put_server(out: &mut [u8], at: usize, s: usize, server: Server) -> usize
+    requires { ⌜ at + 144 ≤ length (now out) ⌝ }
+    ensures { λ r. ⌜ Wrote 144 (now (out .entry)) at (serverText s server) (now (out .exit)) r ⌝ }
+{
+    let next = put_server_accounts(out, at, s, server);
+    put_text(out, next, b"\n")
+}
+
+// "per server `server`, number, state, budget, deadline, own, lent, spin"
+fn put_servers(out: &mut [u8], at: usize, st: State) -> usize
+    requires { ⌜ at + 2304 ≤ length (now out) ⌝ }
+    ensures { λ r. ⌜ Wrote 2304 (now (out .entry)) at (joinTo 16 (serverLine st)) (now (out .exit)) r ⌝ }
+{
+    let tasks = st.tasks;
+    let mut next = at;
+    for s in 0..16usize {
+        if model::entries::in_use(tasks, s) {
+            let server = st.server[s];
+            next = put_server(out, next, s, server);
+        }
+    }
+    next
+}
+
+// "per task `task`, number, executed"
+fn put_task(out: &mut [u8], at: usize, t: usize, executed: u32) -> usize
+    requires { ⌜ at + 47 ≤ length (now out) ⌝ }
+    ensures { λ r. ⌜ Wrote 47 (now (out .entry)) at (taskText t executed) (now (out .exit)) r ⌝ }
+{
+    put_line(out, at, b"task", t, executed as usize)
+}
+
+fn put_tasks(out: &mut [u8], at: usize, st: State) -> usize
+    requires { ⌜ at + 752 ≤ length (now out) ⌝ }
+    ensures { λ r. ⌜ Wrote 752 (now (out .entry)) at (joinTo 16 (taskLine st)) (now (out .exit)) r ⌝ }
+{
+    let tasks = st.tasks;
+    let mut next = at;
+    for t in 0..16usize {
+        if model::entries::in_use(tasks, t) {
+            let task = st.task[t];
+            next = put_task(out, next, t, task.executed);
+        }
+    }
+    next
+}
+
+// "Then `end` and clock"
+pub fn put_end(out: &mut [u8], at: usize, st: State) -> usize
+    requires { ⌜ at + 3081 ≤ length (now out) ⌝ }
+    ensures { λ r. ⌜ Wrote 3081 (now (out .entry)) at (endLines st) (now (out .exit)) r ⌝ }
+{
+    let mut next = put_named(out, at, b"end", st.clock as usize);
+    next = put_text(out, next, b"\n");
+    next = put_servers(out, next, st);
+    put_tasks(out, next, st)
+}

@@ -1,0 +1,47 @@
+// Replay from the first event on: each event is stepped and its line written, up to the file's end or its first fault. Each function is given a buffer
+// with room for the listing of every file of the trace's length.
+ghost use Prim.Native.Nat.{_≤_};
+ghost use lib.ListN.{length};
+ghost use Rattle.listing.specs.Replay.{room};
+ghost use Rattle.listing.specs.Parts.{textFrom, running};
+ghost use Rattle.listing.specs.Writing.{Wrote};
+use crate::closing::put_end;
+use crate::lines::put_event;
+use crate::lines::put_stop;
+use model::Answer;
+use model::State;
+use trace::Place;
+use trace::Read;
+use trace::Record;
+
+pub fn put_from_events(file: &[u8], out: &mut [u8], start: Place, fresh: State) -> usize
+    requires { ⌜ (start .at ≤ length (now file)) × (room (length (now file)) ≤ length (now out)) ⌝ }
+    ensures { λ r. ⌜ Wrote (room (length (now (file .entry)))) (now (out .entry)) 0 (textFrom (now (file .entry)) (running fresh 0) (start .at)) (now (out .exit)) r ⌝ }
+{
+    let mut place = start;
+    let mut state = fresh;
+    let mut events: usize = 0;
+    let mut written: usize = 0;
+    loop {
+        let at = place.at;
+        let read = place.read(file);
+        let Read::Got(record, next) = read else {
+            let Read::Fault(number) = read else {
+                return put_end(out, written, state);
+            };
+            return put_stop(out, written, at, number);
+        };
+        let Record::Happening(event) = record else {
+            return put_stop(out, written, at, 32);
+        };
+        let outcome = step::step::step(state, event);
+        let answer = outcome.answer;
+        events += 1;
+        written = put_event(out, written, events, answer);
+        place = next;
+        let Answer::Refused(_) = answer else {
+            state = outcome.state;
+            continue;
+        };
+    }
+}

@@ -1,0 +1,49 @@
+// The lines of events and the line of a stop. Each function is given a buffer that has room for the longest line that it can write.
+ghost use mathlib.Core.List.{_++_};
+ghost use Prim.Native.Nat.{_+_, _≤_};
+ghost use lib.ListN.{length};
+ghost use Rattle.model.specs.Said.{said};
+ghost use Rattle.listing.specs.Text.{spelled, field};
+ghost use Rattle.listing.specs.Listing.{eventLine, stopLine};
+ghost use Rattle.listing.specs.Writing.{Wrote};
+use crate::numbers::put_line;
+use crate::numbers::put_named;
+use crate::numbers::put_number;
+use crate::numbers::put_text;
+use model::Answer;
+
+// "`stop`, its offset, refusal number"
+pub fn put_stop(out: &mut [u8], at: usize, offset: usize, number: u16) -> usize
+    requires { ⌜ at + 47 ≤ length (now out) ⌝ }
+    ensures { λ r. ⌜ Wrote 47 (now (out .entry)) at (stopLine offset number) (now (out .exit)) r ⌝ }
+{
+    put_line(out, at, b"stop", offset, number as usize)
+}
+
+// An answer's word and number.
+fn put_answer(out: &mut [u8], at: usize, answer: Answer) -> usize
+    requires { ⌜ at + 29 ≤ length (now out) ⌝ }
+    ensures { λ r. ⌜ Wrote 29 (now (out .entry)) at (spelled (said answer .0) ++ field (said answer .1)) (now (out .exit)) r ⌝ }
+{
+    match answer {
+        Answer::Ok(n) => put_named(out, at, b"ok", n as usize),
+        Answer::Executes(t) => put_named(out, at, b"executes", t.0 as usize),
+        Answer::Spins(t) => put_named(out, at, b"spins", t.0 as usize),
+        Answer::Granted(r) => put_named(out, at, b"granted", r as usize),
+        Answer::Waits(t) => put_named(out, at, b"waits", t.0 as usize),
+        Answer::Passed(t) => put_named(out, at, b"passed", t.0 as usize),
+        Answer::Freed(r) => put_named(out, at, b"freed", r as usize),
+        Answer::Refused(n) => put_named(out, at, b"refused", n as usize),
+    }
+}
+
+// "Per event: number from 1, answer word (`refused` for a refusal), number."
+pub fn put_event(out: &mut [u8], at: usize, number: usize, answer: Answer) -> usize
+    requires { ⌜ at + 51 ≤ length (now out) ⌝ }
+    ensures { λ r. ⌜ Wrote 51 (now (out .entry)) at (eventLine number answer) (now (out .exit)) r ⌝ }
+{
+    let mut next = put_number(out, at, number);
+    next = put_text(out, next, b" ");
+    next = put_answer(out, next, answer);
+    put_text(out, next, b"\n")
+}

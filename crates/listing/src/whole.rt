@@ -1,0 +1,32 @@
+// `replay`: the whole text of a trace, whatever its bytes, into a lent buffer. Assumes nothing.
+ghost use mathlib.Core.Path.{_≡_};
+ghost use lib.Dec.{leb};
+ghost use lib.ListN.{length};
+ghost use Rattle.listing.specs.Replay.{room, replayed, bufferAfter, saidReplayed};
+use crate::Replayed;
+
+// Whether a buffer of so many bytes is long enough for every file of a length.
+fn has_room(length: usize, lent: usize) -> bool
+    ensures { λ r. ⌜ r ≡ leb (room length) lent ⌝ }
+{
+    if lent < 4000 {
+        return false;
+    }
+    length <= (lent - 4000) / 13
+}
+
+// The text's length, with the text in the buffer from its start and what stood there after it; or that the buffer is too short, and it stays as it was.
+pub fn replay(file: &[u8], out: &mut [u8]) -> Replayed
+    ensures { λ r. ⌜ r ≡ replayed (now (file .entry)) (length (now (out .entry))) ⌝ }
+    ensures text { λ r. ⌜ now (out .exit) ≡ bufferAfter (now (file .entry)) (now (out .entry)) ⌝ }
+    ensures says { λ r. ⌜ saidReplayed r ≡ saidReplayed (replayed (now (file .entry)) (length (now (out .entry)))) ⌝ }
+{
+    if !has_room(file.len(), out.len()) {
+        return Replayed::TooShort;
+    }
+    // "33 file above 60,000 bytes (place 0, nothing else)"
+    if file.len() > 60000 {
+        return Replayed::Written(crate::lines::put_stop(out, 0, 0, 33));
+    }
+    Replayed::Written(crate::table::put_listing(file, out))
+}
