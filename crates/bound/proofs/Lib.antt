@@ -11,4 +11,3 @@ pub mod Steps
 pub mod Refusals
 pub mod Drawing
 pub mod Answered
-pub mod Says
