@@ -4,4 +4,3 @@ pub mod Changes
 pub mod Rests
 pub mod Grounds
 pub mod Outcomes
-pub mod Unique

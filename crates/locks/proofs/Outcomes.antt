@@ -1,5 +1,5 @@
 -- The outcomes of lock and unlock from their parts, as the code makes them: a law for each answer. Assumes nothing.
-use mathlib.Core.Path.{_≡_, sym, ap, ap₂, _∙_}
+use mathlib.Core.Path.{_≡_, refl, sym, ap, ap₂, _∙_}
 use mathlib.Core.Bool.{true, false}
 use mathlib.Core.List.{List}
 use Prim.Native.Nat.{ℕ, _<_}
@@ -26,7 +26,7 @@ use Rattle.settle.proofs.Laws.{settled-served}
 use Rattle.locks.specs.declared.Verdict.{Verdict}
 use Rattle.locks.specs.declared.Verdict.the-variants as verdict
 use Rattle.locks.specs.Verdicts.{refusalOf, Clear}
-use Rattle.locks.specs.Rest.{restedEndBy}
+use Rattle.locks.specs.Rest.{restedIf}
 use Rattle.locks.proofs.Grounds.{lock-here, unlock-here}
 use Rattle.locks.proofs.Rests.{rested-end-is, rested-served, rested-ends}
 
@@ -77,6 +77,17 @@ module _ (st changed after : State) (before ends : List ℕ) (t : TaskNo) (r act
       (ends ≡ endsOf ended) ×
       (after ≡ settledBy ends before acting changed)
 
+  settles-to
+      : (made : State)
+      → here st (t .0) ≡ true
+      → changed ≡ made
+      → made .tasks ≡ st .tasks
+      → Settling changed
+      → after ≡ settled st (executorOf st (t .0)) made
+  settles-to made used c n s =
+      settles st changed after before ends (t .0) acting used (s .0) (s .1) (ap (λ x. x .tasks) c ∙ n) (s .2) (s .3)
+      ∙ ap (settled st (executorOf st (t .0))) c
+
   pub lock-grants
       : Clear st (Lock t r)
       → owned (resourceAt st r .owner) ≡ false
@@ -85,7 +96,7 @@ module _ (st changed after : State) (before ends : List ℕ) (t : TaskNo) (r act
       → record { answer = Granted r; state = after } ≡ attempted st (Lock t r)
   unfolding attempted stateAfter locked granted
   lock-grants clear free c s =
-      let p = settles st changed after before ends (t .0) acting (lock-here st t r clear) (s .0) (s .1) (ap (λ x. x .tasks) c) (s .2) (s .3) ∙ ap (settled st (executorOf st (t .0))) c in
+      let p = settles-to (granted st (t .0) r) (lock-here st t r clear) c refl s in
       (λ i. record { answer = Granted r; state = p i }) ∙ rw (← (clear .unrefused), free)
 
   pub unlock-frees
@@ -96,7 +107,7 @@ module _ (st changed after : State) (before ends : List ℕ) (t : TaskNo) (r act
       → record { answer = Freed r; state = after } ≡ attempted st (Unlock t r)
   unfolding attempted stateAfter unlocked freed
   unlock-frees clear none-waits c s =
-      let p = settles st changed after before ends (t .0) acting (unlock-here st t r clear) (s .0) (s .1) (ap (λ x. x .tasks) c) (s .2) (s .3) ∙ ap (settled st (executorOf st (t .0))) c in
+      let p = settles-to (freed st (t .0) r) (unlock-here st t r clear) c refl s in
       (λ i. record { answer = Freed r; state = p i }) ∙ rw (← (clear .unrefused), eq-eqb (resourceAt st r .waiting) 0 none-waits)
 
   pub unlock-passes
@@ -109,8 +120,7 @@ module _ (st changed after : State) (before ends : List ℕ) (t : TaskNo) (r act
       → record { answer = Passed heir; state = after } ≡ attempted st (Unlock t r)
   unfolding attempted stateAfter unlocked passed
   unlock-passes heir clear waits f c s =
-      let d = c ∙ ap (λ h. passed st (t .0) r (h .0)) f in
-      let p = settles st changed after before ends (t .0) acting (unlock-here st t r clear) (s .0) (s .1) (ap (λ x. x .tasks) c) (s .2) (s .3) ∙ ap (settled st (executorOf st (t .0))) d in
+      let p = settles-to (passed st (t .0) r (firstWaiter (resourceAt st r))) (unlock-here st t r clear) (c ∙ ap (λ h. passed st (t .0) r (h .0)) f) refl s in
       (λ i. record { answer = Passed (f i); state = p i }) ∙ rw (← (clear .unrefused), ne-eqb (resourceAt st r .waiting) 0 (λ e. omega arith))
 
   pub lock-waits
@@ -119,7 +129,7 @@ module _ (st changed after : State) (before ends : List ℕ) (t : TaskNo) (r act
       → owned (resourceAt st r .owner) ≡ true
       → queued ≡ joined st (t .0) r
       → end ≡ getD ends (t .0) 0
-      → changed ≡ restedEndBy ends end queued
+      → changed ≡ restedIf queued end
       → Settling queued
       → record { answer = Waits (record { 0 = end }); state = after } ≡ attempted st (Lock t r)
   unfolding attempted stateAfter locked
@@ -128,7 +138,7 @@ module _ (st changed after : State) (before ends : List ℕ) (t : TaskNo) (r act
       let o : ends ≡ endsOf (joined st (t .0) r) = s .2 ∙ ap endsOf q in
       let f : end ≡ served (joined st (t .0) r) (t .0) = e ∙ ap (λ xs. getD xs (t .0) 0) o ∙ ends-at _ (t .0) (here-below st (t .0) own) in
       let d : changed ≡ restedEnd (joined st (t .0) r) (t .0) =
-      c ∙ ap₂ (λ xs x. restedEndBy xs x queued) o f ∙ ap (restedEndBy _ _) q ∙ rested-end-is (joined st (t .0) r) (t .0) in
+      c ∙ ap₂ restedIf q f ∙ rested-end-is (joined st (t .0) r) (t .0) in
       let p = settles st changed after before ends (t .0) acting own (s .0) (s .1)
       (ap (λ x. x .tasks) d ∙ rested-tasks st (t .0) r)
       (o ∙ sym (rested-ends (joined st (t .0) r) (t .0)) ∙ ap endsOf (sym d))

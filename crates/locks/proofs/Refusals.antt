@@ -5,11 +5,10 @@ use mathlib.Core.List.{List, _∷_}
 use mathlib.Core.Option.{Option, none, some}
 use Prim.Native.Nat.{ℕ, _-_, _<_}
 use native.Mathlib.Omega.{arith}
-use lib.Dec.{ltb}
 use lib.ListN.{getD}
-use borrow.Author.Tests.{eq-eqb, ne-eqb, eqb-true, eqb-false, ltb-true, not-false}
+use borrow.Author.Tests.{eq-eqb, ne-eqb, eqb-true, eqb-false, not-false}
 use Rattle.laws.specs.Tests.{firstOf}
-use Rattle.laws.proofs.Cases.{split, none-some, first-no, and-left}
+use Rattle.laws.proofs.Cases.{split, none-some, first-no}
 use Rattle.model.specs.declared.TaskNo.{TaskNo}
 use Rattle.model.specs.declared.State.{State}
 use Rattle.model.specs.declared.Owner.{Owner}
@@ -23,9 +22,6 @@ use Rattle.model.specs.Step.{endsAt, topOf, tests}
 use Rattle.locks.specs.declared.Verdict.{Verdict}
 use Rattle.locks.specs.declared.Verdict.the-variants.{Accepted}
 use Rattle.locks.specs.Verdicts.{refusalOf, contests, releases, Clear}
-
-pub number-below : (count i : ℕ) → inUse count i ≡ true → i < places
-number-below count i h = ltb-true i places (and-left (ltb i places) _ h)
 
 -- the tests on the owner
 module _ (st : State) (t : ℕ) (owner : Owner) where

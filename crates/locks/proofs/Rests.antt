@@ -1,78 +1,34 @@
--- Servers that come to rest, by the array of chain ends: the laws of the code's loop, and that it says what `restedEnd` says. A change of servers
--- changes no chain. Assumes nothing.
-use mathlib.Core.Path.{_≡_, refl, ap, _∙_}
-use mathlib.Core.Bool.{Bool, true, false, _&&_, _||_}
+-- Servers that come to rest behind a suspended task: that the code says what `restedEnd` says. A change of servers changes no chain. Assumes nothing.
+use mathlib.Core.Path.{_≡_, refl, ap}
+use mathlib.Core.Bool.{true, false}
 use mathlib.Core.List.{List}
-use Prim.Native.Nat.{ℕ, zero, suc, _+_, _<_}
-use lib.Dec.{eqb}
-use lib.ListN.{getD}
-use Rattle.laws.specs.Tests.{if_then_else_}
-use Rattle.laws.specs.Loops.{setTo}
+use Prim.Native.Nat.{ℕ, zero, suc}
 use Rattle.laws.proofs.Cases.{split}
-use Rattle.laws.proofs.Set.{set-same, set-skip}
-use Rattle.model.specs.declared.Phase.{Phase}
-use Rattle.model.specs.declared.Phase.the-variants.{Idle, Active, Running, Recharging}
 use Rattle.model.specs.declared.Server.{Server}
 use Rattle.model.specs.declared.State.{State}
-use Rattle.model.specs.State.{places, noServer, serverAt, taskAt, inUse, here, present, active, running, suspended, ownerOf, next, chainEnd, served}
-use Rattle.model.specs.Events.{withPhase, withServers, serverBy, eachServer, rests, restedServer, rested, restedEnd}
+use Rattle.model.specs.State.{places, taskAt, here, present, suspended, ownerOf, next, chainEnd, served}
+use Rattle.model.specs.Events.{withServers, eachServer, rested, restedEnd}
 use Rattle.chain.specs.Arrays.{endsOf}
-use Rattle.chain.proofs.Arrays.{array-same, ends-at}
-use Rattle.locks.specs.Rest.{awake, restedAt, restedBy, restedEndBy}
+use Rattle.chain.proofs.Arrays.{array-same}
+use Rattle.servers.specs.declared.rest.Turned.{Turned}
+use Rattle.servers.specs.Serving.{serversBy, restedServers}
+use Rattle.locks.specs.Rest.{restedIf}
 
--- a turn of the loop
-pub rested-read
-    : (servers : List Server) (count : ℕ) (ends : List ℕ) (end s : ℕ) (up both : Bool) (server : Server)
-    → inUse count s ≡ true
-    → up ≡ awake (getD servers s noServer .phase)
-    → both ≡ (up && eqb (getD ends s 0) end)
-    → server ≡ (if both then withPhase Idle (getD servers s noServer) else getD servers s noServer)
-    → server ≡ restedAt servers count ends end s
-unfolding restedAt
-rested-read servers count ends end s up both server h u b e = e ∙ rw (h, b, u)
-
-pub rested-skip
-    : (servers : List Server) (count : ℕ) (ends : List ℕ) (end s : ℕ) (after : List Server)
-    → inUse count s ≡ false
-    → after ≡ setTo s (restedAt servers count ends end) servers
-    → after ≡ setTo (s + 1) (restedAt servers count ends end) servers
-unfolding restedAt
-rested-skip servers count ends end s after h e = set-skip _ s servers after noServer (rw h) e
-
-pub rested-no : (ends : List ℕ) (end : ℕ) (st : State) → suspended (taskAt st end .mode) ≡ false → st ≡ restedEndBy ends end st
-unfolding restedEndBy
-rested-no ends end st h = rw h
+pub rested-no : (st : State) (end : ℕ) → suspended (taskAt st end .mode) ≡ false → st ≡ restedIf st end
+unfolding restedIf
+rested-no st end h = rw h
 
 pub rested-yes
-    : (ends : List ℕ) (end : ℕ) (st : State) (servers : List Server)
+    : (st : State) (end : ℕ) (turned : Turned)
     → suspended (taskAt st end .mode) ≡ true
-    → servers ≡ restedBy (st .server) (st .tasks) ends end
-    → withServers servers st ≡ restedEndBy ends end st
-unfolding restedEndBy
-rested-yes ends end st servers h e = rw (h, e)
+    → turned ≡ restedServers st end
+    → withServers (turned .server) st ≡ restedIf st end
+unfolding restedIf rested eachServer serversBy
+rested-yes st end turned h e = rw h (ap (λ x. withServers (x .server) st) e)
 
-awake-is : (p : Phase) → awake p ≡ (active p || running p)
-awake-is Idle = refl
-awake-is Active = refl
-awake-is Running = refl
-awake-is Recharging = refl
-
-module _ (st : State) (t : ℕ) where
-  rested-at : (s : ℕ) → s < places → restedAt (st .server) (st .tasks) (endsOf st) t s ≡ serverBy st (restedServer st t) s
-  unfolding restedAt serverBy restedServer rests here
-  rested-at s l =
-      split
-      (inUse (st .tasks) s)
-      (λ y. rw (y, ends-at st s l, awake-is (serverAt st s .phase)))
-      (λ n. rw n)
-
-  rested-is : withServers (restedBy (st .server) (st .tasks) (endsOf st) t) st ≡ rested st t
-  unfolding restedBy rested eachServer
-  rested-is = ap (λ ss. withServers ss st) (set-same _ _ places (st .server) rested-at)
-
-pub rested-end-is : (st : State) (t : ℕ) → restedEndBy (endsOf st) (served st t) st ≡ restedEnd st t
-unfolding restedEndBy restedEnd
-rested-end-is st t = ap (λ x. if suspended (taskAt st (served st t) .mode) then x else st) (rested-is st (served st t))
+pub rested-end-is : (st : State) (t : ℕ) → restedIf st (served st t) ≡ restedEnd st t
+unfolding restedIf restedEnd
+rested-end-is st t = refl
 
 -- servers are no part of a chain
 module _ (ss : List Server) (st : State) where

@@ -94,7 +94,7 @@ fn wait(mut st: State, t: TaskNo, r: u16) -> Outcome
     let acting = before[i];
     let task = st.task[i];
     let resource = st.resource[j];
-    st.task[i] = crate::stack::with_mode(Mode::Waiting(r), task);
+    st.task[i] = servers::entries::with_mode(task, Mode::Waiting(r));
     st.resource[j] = crate::queue::enqueued(t, resource);
     let ends = chain::walk::chain_ends(st);
     let end = ends[i];
@@ -112,10 +112,7 @@ pub fn lock(st: State, t: TaskNo, r: u16) -> Outcome
 {
     let verdict = refusal(st, t, r);
     match verdict {
-        Verdict::Refused(n) => Outcome {
-            answer: Answer::Refused(n),
-            state: st,
-        },
+        Verdict::Refused(n) => servers::entries::refused(st, n),
         Verdict::Accepted => {
             let wanted = st.resource[r as usize];
             let owner = wanted.owner;

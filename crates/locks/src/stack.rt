@@ -2,8 +2,7 @@
 // Assumes that there is room, or that there is something to give up.
 ghost use mathlib.Core.Path.{_≡_};
 ghost use Prim.Native.Nat.{_<_, _≤_};
-ghost use Rattle.model.specs.Events.{pushed, popped, withMode};
-use model::Mode;
+ghost use Rattle.model.specs.Events.{pushed, popped};
 use model::Task;
 
 // With r on top.
@@ -29,19 +28,4 @@ pub fn popped(task: Task) -> Task
     after.held[top] = 0;
     after.depth = left;
     after
-}
-
-pub fn with_mode(mode: Mode, task: Task) -> Task
-    ensures { λ k. ⌜ k ≡ withMode mode task ⌝ }
-{
-    let runs = task.runs;
-    let held = task.held;
-    Task {
-        mode,
-        runs,
-        declared: task.declared,
-        depth: task.depth,
-        executed: task.executed,
-        held,
-    }
 }

@@ -96,7 +96,7 @@ fn pass(mut st: State, t: TaskNo, r: u16) -> Outcome
     let h = heir.0 as usize;
     let waiter = st.task[h];
     st.task[i] = crate::stack::popped(task);
-    st.task[h] = crate::stack::pushed(r, crate::stack::with_mode(Mode::Ready, waiter));
+    st.task[h] = crate::stack::pushed(r, servers::entries::with_mode(waiter, Mode::Ready));
     st.resource[j] = crate::queue::with_owner(Owner::By(heir), crate::queue::dequeued(resource));
     let ends = chain::walk::chain_ends(st);
     Outcome {
@@ -112,10 +112,7 @@ pub fn unlock(st: State, t: TaskNo, r: u16) -> Outcome
 {
     let verdict = refusal(st, t, r);
     match verdict {
-        Verdict::Refused(n) => Outcome {
-            answer: Answer::Refused(n),
-            state: st,
-        },
+        Verdict::Refused(n) => servers::entries::refused(st, n),
         Verdict::Accepted => {
             let j = r as usize;
             let resource = st.resource[j];

@@ -1,4 +1,3 @@
 pub mod Arrays
 pub mod Answers
 pub mod Laws
-pub mod Unique

@@ -6,4 +6,3 @@ pub mod Passed
 pub mod Same
 pub mod Turns
 pub mod Fresh
-pub mod Unique

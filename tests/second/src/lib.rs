@@ -3,7 +3,7 @@
 //!
 //! - `state`: the state, its chains, `fresh`, and soundness clause by clause;
 //! - `step`: the eight events and rule H; `meter`: the rows a caller lends;
-//! - `trace` and `replay`: reading a trace, and its listing;
+//! - `trace` and `replay`: reading a trace, and its listing; `states`: each state as text;
 //! - `bound`: the interference bound; `section_text`: the text that program `bounds` reads;
 //! - `generate`: seeded cases that reach deep states, and a count of what they reach.
 //!
@@ -19,5 +19,6 @@ pub mod refusal;
 pub mod replay;
 pub mod section_text;
 pub mod state;
+pub mod states;
 pub mod step;
 pub mod trace;

@@ -3,7 +3,8 @@
 //! Assumes nothing of the bytes; a file above 60,000 bytes may be given cut to one byte more.
 
 use crate::refusal::Refusal;
-use crate::state::{fresh, Phase, State};
+use crate::state::{fresh, State};
+use crate::states::phase_word;
 use crate::step::{step_sound, Answer};
 use crate::trace::{check_size, Place, Reading, Record, TableReader};
 use std::fmt::Write;
@@ -105,14 +106,5 @@ impl Replay {
     fn line(&mut self, text: std::fmt::Arguments) {
         // Writing to a string cannot fail.
         let _ = writeln!(self.listing, "{text}");
-    }
-}
-
-fn phase_word(phase: Phase) -> &'static str {
-    match phase {
-        Phase::Idle => "idle",
-        Phase::Active => "active",
-        Phase::Running => "running",
-        Phase::Recharging => "recharging",
     }
 }

@@ -15,3 +15,4 @@ mod readings_events;
 mod readings_state;
 mod readings_trace;
 mod slips;
+mod states;

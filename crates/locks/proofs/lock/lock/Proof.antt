@@ -13,6 +13,7 @@ lock-spec =
     (tie.spec
     (λ c κs. search needs)
     (λ c. search needs)
+    (λ c κs. search needs)
     (λ c. search needs)
     (λ c. search needs)
     (λ c.
@@ -31,6 +32,6 @@ lock-spec =
       verdict-clear _ _ _ (tested .refusal .ensures) (tested .before .pre) (accepted .enum-told .given .1),
       sym (c .before .is-owned .ensures) ∙ c .if1 .left,
     ))
-    (λ c. refused-is _ _ _ _ (c .before .before .before .refusal .ensures) (c .before .verdict .given .1))
+    (λ c. c .refused .ensures ∙ refused-is _ _ _ _ (c .before .before .before .before .refusal .ensures) (c .before .before .verdict .given .1))
     (λ c. c .wait .ensures)
     (λ c. c .grant .ensures))

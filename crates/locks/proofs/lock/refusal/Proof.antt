@@ -2,7 +2,8 @@
 use mathlib.Core.Path.{sym, _∙_}
 use borrow.Author.Needs.{needs}
 use borrow.Author.Tests.{not-true, not-false}
-use Rattle.locks.proofs.Refusals.{number-below, lock-2, lock-3, lock-4, lock-6, lock-rest}
+use Rattle.settle.proofs.Answers.{number-below}
+use Rattle.locks.proofs.Refusals.{lock-2, lock-3, lock-4, lock-6, lock-rest}
 use Rattle.locks.proofs.lock.refusal.Statement.{statement}
 use Rattle.locks.proofs.lock.refusal.Tie as tie
 

@@ -29,7 +29,10 @@ wait-spec =
     (λ c κs. search needs)
     (λ c. search needs)
     (λ c. lock-below _ _ _ (c .before .before .before .before .before .before .before .pre .0))
-    (λ c κs. end-below _ _ _ (c .before .chain-ends .ensures) (lock-below _ _ _ (c .before .before .before .before .before .before .before .before .pre .0)))
+    (λ c κs. (
+      end-below _ _ _ (c .before .chain-ends .ensures) (lock-below _ _ _ (c .before .before .before .before .before .before .before .before .pre .0)),
+      c .before .chain-ends .ensures,
+    ))
     (λ c.
     let below = end-below _ _ _ (c .before .before .chain-ends .ensures) (lock-below _ _ _ (c .before .before .before .before .before .before .before .before .before .pre .0)) in
     record { fits = omega arith })

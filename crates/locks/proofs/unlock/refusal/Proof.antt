@@ -2,7 +2,8 @@
 use mathlib.Core.Path.{sym, _∙_}
 use borrow.Author.Needs.{needs}
 use borrow.Author.Tests.{not-true, not-false}
-use Rattle.locks.proofs.Refusals.{number-below, unlock-2, unlock-3, unlock-6, unlock-rest}
+use Rattle.settle.proofs.Answers.{number-below}
+use Rattle.locks.proofs.Refusals.{unlock-2, unlock-3, unlock-6, unlock-rest}
 use Rattle.locks.proofs.Grounds.{owner-stack}
 use Rattle.locks.proofs.unlock.refusal.Statement.{statement}
 use Rattle.locks.proofs.unlock.refusal.Tie as tie

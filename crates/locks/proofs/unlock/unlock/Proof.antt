@@ -1,4 +1,5 @@
 -- `locks::unlock::unlock` meets its contract. Assumes nothing.
+use mathlib.Core.Path.{_∙_}
 use borrow.Author.Needs.{needs}
 use native.Mathlib.Omega.{arith}
 use Rattle.locks.proofs.Refusals.{verdict-clear}
@@ -13,6 +14,7 @@ unlock-spec =
     (tie.spec
     (λ c κs. search needs)
     (λ c. search needs)
+    (λ c κs. search needs)
     (λ c. search needs)
     (λ c. search needs)
     (λ c.
@@ -27,6 +29,6 @@ unlock-spec =
     let tested = accepted .before .before in
     let waits = c .if1 .left in
     (verdict-clear _ _ _ (tested .refusal .ensures) (tested .before .pre) (accepted .enum-told .given .1), omega arith))
-    (λ c. refused-is _ _ _ _ (c .before .before .before .refusal .ensures) (c .before .verdict .given .1))
+    (λ c. c .refused .ensures ∙ refused-is _ _ _ _ (c .before .before .before .before .refusal .ensures) (c .before .before .verdict .given .1))
     (λ c. c .free .ensures)
     (λ c. c .pass .ensures))
