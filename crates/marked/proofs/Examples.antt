@@ -5,11 +5,12 @@ use Prim.Native.Nat.{ℕ}
 use lib.Dec.{ltb, eqb}
 use Rattle.model.specs.declared.State.{State}
 use Rattle.model.specs.declared.Event.the-variants.{Elapse}
-use Rattle.model.specs.declared.Answer.the-variants.{Refused}
+use Rattle.model.specs.declared.Answer.the-variants.{Ok, Refused}
+use Rattle.model.specs.declared.Phase.the-variants.{Idle, Active}
 use Rattle.laws.specs.Tests.{firstOf}
 use Rattle.laws.specs.Loops.{countTo, allTo, sumTo, setTo, foldTo, betterOf, bestTo, joinTo}
 use Rattle.reordering.specs.Run.{after, log}
-use Rattle.model.specs.State.{here, present, declares, ownerOf, next, chainEnd, served, runningAt, runningFor, executorOf, executing, executes}
+use Rattle.model.specs.State.{serverAt, here, present, declares, ownerOf, next, chainEnd, served, runningAt, runningFor, executorOf, executing, executes}
 use Rattle.model.specs.Sound.{ifHere, each, ifPresent, eachResource, sizesFit, reservationFits, declarationFits, deadlineFits, budgetFits, emptyRecharges, seated, heldAt, queuedAt, stackPlaceFits, stackFits, queuePlaceFits, queueFits, ownerFits, waitFits, stackAgrees, queueAgrees, entriesAgree, unownedUnqueued, usedDeclared, allDeclared, chainOpen, idleFits, executorFits, servedExecutes, accountsFit, loose, sound}
 use Rattle.model.specs.Fresh.{countsRefusal, entryRefusal, taskRefusal, freshRefusal, freshServerAt, freshTaskAt, freshState, freshOf}
 use Rattle.model.specs.RuleH.{budgetAt, chosen, executorBy, settledTask, settled}
@@ -23,7 +24,8 @@ use Rattle.trace.specs.Reading.{twoBytes, fourBytes, bodyLength, entryIn, recor
 use Rattle.listing.specs.Text.{bytes, digits, decimal, field, newline, spelled, phaseWord}
 use Rattle.listing.specs.Listing.{eventLine, stopLine, serverLine, taskLine, endLines, itemsText, listing}
 use Rattle.marked.specs.Example.{AllHold, _and_, nothing}
-use Rattle.marked.specs.Marked.{table}
+use Rattle.marked.specs.Trace.{wake}
+use Rattle.marked.specs.Marked.{tableR, table}
 use Rattle.marked.specs.Further.{further}
 
 -- every sound state refuses such an elapse
@@ -32,7 +34,14 @@ elapse-refused
 unfolding stepped attempted firstOf
 elapse-refused n e st h = rw (h, e)
 
-examples : AllHold table × AllHold further
+-- the first event of case R has an answer and a change of its own
+abbrev pub FirstWake : Type 0
+FirstWake =
+    (stepped (freshState tableR) (wake 2) .answer ≡ Ok 1) ×
+    (serverAt (freshState tableR) 2 .phase ≡ Idle) ×
+    (serverAt (stepped (freshState tableR) (wake 2) .state) 2 .phase ≡ Active)
+
+examples : AllHold table × AllHold further × FirstWake
 unfolding firstOf countTo allTo sumTo setTo foldTo betterOf bestTo joinTo after log here present declares ownerOf next chainEnd served runningAt runningFor
     executorOf executing executes ifHere each ifPresent eachResource sizesFit reservationFits declarationFits deadlineFits budgetFits emptyRecharges
     seated heldAt queuedAt stackPlaceFits stackFits queuePlaceFits queueFits ownerFits waitFits stackAgrees queueAgrees entriesAgree unownedUnqueued
@@ -49,6 +58,7 @@ examples = (
   refl and refl and refl and elapse-refused 0 refl and elapse-refused 1000001 refl and refl and refl and refl and refl and
       refl and refl and refl and refl and refl and nothing,
   refl and refl and refl and refl and refl and refl and refl and refl and refl and refl and refl and refl and refl and nothing,
+  (refl, refl, refl),
 )
 
 pub marked : AllHold table
@@ -56,3 +66,6 @@ marked = examples .0
 
 pub further-holds : AllHold further
 further-holds = examples .1
+
+pub first-wake : FirstWake
+first-wake = examples .2

@@ -1,6 +1,6 @@
 -- The outcome of an event that is not refused, in parts: what it changes, how rule H settles that, what it answers; and what its sums of ticks stay
 -- below. Assumes nothing.
-use mathlib.Core.Path.{_≡_, sym, _∙_, ap, ap₂}
+use mathlib.Core.Path.{_≡_, refl, sym, _∙_, ap, ap₂}
 use mathlib.Core.Bool.{Bool, true, false, not, _&&_, _||_, true≢false}
 use mathlib.Core.List.{List}
 use mathlib.Core.Option.{none}
@@ -26,9 +26,12 @@ use Rattle.model.specs.declared.Answer.the-variants.{Ok, Executes, Spins}
 use Rattle.model.specs.State.{places, nobody, serverAt, taskAt, here, suspended, placed, served, runningAt, executes}
 use Rattle.model.specs.Sound.{sound}
 use Rattle.model.specs.RuleH.{withTasks, settled}
-use Rattle.model.specs.Events.{withServers, withClock, withServer, withTask, refilled, withMode, eachServer, woken, rested, slept, phased, elapsed, rechargedPhase, recharged, changed, acting}
+use Rattle.model.specs.Events.{withServers, withClock, withServer, withTask, withPhase, refilled, withMode, eachServer, woken, rested, slept, phased, elapsed, rechargedPhase, recharged, changed, acting}
 use Rattle.model.specs.Step.{crowded, tests, answered, stateAfter, attempted}
 use Rattle.model.proofs.Sound.{sound-facts}
+use Rattle.chain.specs.Arrays.{endsOf}
+use Rattle.settle.specs.Arrays.{executorsOf, settledBy}
+use Rattle.settle.proofs.Arrays.{settled-from}
 use Rattle.servers.specs.declared.serving.Turn.{Turn}
 use Rattle.servers.specs.declared.serving.Turn.the-variants.{Wakes, Rests}
 use Rattle.servers.specs.declared.rest.Turned.{Turned}
@@ -73,14 +76,16 @@ turned-changes Wakes st t x k ex ek = ap₂ (λ y z. withTask t z (withServers (
 turned-changes Rests st t x k ex ek = ap₂ (λ y z. withTask t z (withServers (y .server) st)) ex ek
 
 pub turned-does
-    : (turn : Turn) (st : State) (t : ℕ) (x : Turned) (m : Mode) (k : Task) (after : State)
+    : (turn : Turn) (st : State) (t : ℕ) (x : Turned) (m : Mode) (k : Task) (after : State) (before : List ℕ)
     → x ≡ turnedServers turn st t
     → m ≡ modeAfter turn
     → k ≡ withMode m (taskAt st t)
-    → after ≡ settled st nobody (withTask t k (withServers (x .server) st))
+    → before ≡ executorsOf (st .tasks) st
+    → after ≡ settledBy (endsOf (withTask t k (withServers (x .server) st))) before nobody (withTask t k (withServers (x .server) st))
     → record { answer = Ok (x .count); state = after } ≡ turnedOutcome turn st t
 unfolding serversBy
-turned-does turn st t x m k after ex em ek e =
+turned-does turn st t x m k after before ex em ek b h =
+    let e = settled-from st (withTask t k (withServers (x .server) st)) after before b refl h in
     let changes = turned-changes turn st t x k ex (ek ∙ ap (λ y. withMode y (taskAt st t)) em) in
     λ i. record { answer = Ok (ex i .count); state = (e ∙ ap (settled st nobody) changes) i }
 
@@ -93,15 +98,25 @@ pub crowded-no : (st : State) (k : ℕ) → k ≡ countTo places (runningAt st) 
 unfolding crowded
 crowded-no st k e l = lt-leb _ _ (rw e at l)
 
+-- a server in another phase, and rule H
+pub phased-settles
+    : (p : Phase) (st after : State) (s : ℕ) (x : Server) (before : List ℕ)
+    → before ≡ executorsOf (st .tasks) st
+    → x ≡ withPhase p (serverAt st s)
+    → after ≡ settledBy (endsOf (withServer s x st)) before nobody (withServer s x st)
+    → after ≡ settled st nobody (phased p st s)
+unfolding phased
+phased-settles p st after s x before b e h =
+    settled-from st (withServer s x st) after before b refl h ∙ ap (λ y. settled st nobody (withServer s y st)) e
+
 -- settling, and a server's phase, leave the counts
 pub here-phased
-    : (p : Phase) (st old : State) (s a i : ℕ) (u after : State)
+    : (p : Phase) (st : State) (s i : ℕ) (after : State)
     → here st i ≡ true
-    → u ≡ phased p st s
-    → after ≡ settled old a u
+    → after ≡ settled st nobody (phased p st s)
     → here after i ≡ true
 unfolding here phased settled
-here-phased p st old s a i u after h eu e = rw (e, eu) h
+here-phased p st s i after h e = rw e h
 
 pub dispatch-answers
     : (st after : State) (s : ServerNo) (end : TaskNo) (b : Bool) (a : Answer)
@@ -135,18 +150,28 @@ pub elapse-changes
 unfolding elapsed eachServer serversBy tickedTasks
 elapse-changes st n x ts ex et = ap₂ (λ y us. withClock (st .clock + n) (withTasks us (withServers (y .server) st))) ex et
 
+pub elapse-settles
+    : (st : State) (n : ℕ) (ss : List Server) (ts : List Task) (after : State) (before : List ℕ)
+    → before ≡ executorsOf (st .tasks) st
+    → after ≡ settledBy (endsOf (withClock (st .clock + n) (withTasks ts (withServers ss st)))) before nobody (withClock (st .clock + n) (withTasks ts (withServers ss st)))
+    → after ≡ settled st nobody (withClock (st .clock + n) (withTasks ts (withServers ss st)))
+elapse-settles st n ss ts after before b h = settled-from st _ after before b refl h
+
 pub elapse-answers : (st after : State) (n : ℕ) (x : Turned) → x ≡ spentServers st n → Ok (x .count) ≡ answered st after (Elapse n)
 unfolding serversBy
 elapse-answers st after n x e = ap (λ y. Ok (y .count)) e
 
--- Recharge: the change
+-- Recharge: the change and rule H
 pub recharged-does
-    : (st : State) (s : ℕ) (end : TaskNo) (p : Phase) (x : Server)
+    : (st : State) (s : ℕ) (end : TaskNo) (p : Phase) (x : Server) (after : State) (before : List ℕ)
     → end ≡ record { 0 = served st s }
     → p ≡ (if suspended (taskAt st (end .0) .mode) then Idle else Active)
     → x ≡ refilled p (st .clock) (serverAt st s)
-    → withServer s x st ≡ recharged st s
+    → before ≡ executorsOf (st .tasks) st
+    → after ≡ settledBy (endsOf (withServer s x st)) before nobody (withServer s x st)
+    → after ≡ settled st nobody (recharged st s)
 unfolding recharged rechargedPhase
-recharged-does st s end p x ee ep ex =
+recharged-does st s end p x after before ee ep ex b h =
     let phase = ep ∙ ap (λ t. if suspended (taskAt st (t .0) .mode) then Idle else Active) ee in
-    ap (λ y. withServer s y st) (ex ∙ ap (λ q. refilled q (st .clock) (serverAt st s)) phase)
+    settled-from st (withServer s x st) after before b refl h
+    ∙ ap (λ y. settled st nobody (withServer s y st)) (ex ∙ ap (λ q. refilled q (st .clock) (serverAt st s)) phase)

@@ -6,7 +6,6 @@ use model::Answer;
 use model::Event;
 use model::Outcome;
 use model::Phase;
-use model::Runs;
 use model::ServerNo;
 use model::State;
 use model::TaskNo;
@@ -37,8 +36,7 @@ pub fn dispatch(st: State, s: ServerNo) -> Outcome
     if st.processors <= crate::running::running_count(st) {
         return crate::entries::refused(st, 8);
     }
-    let changed = crate::running::phased(st, s, Phase::Running);
-    let after = settle::rule::settled(st, Runs::Nowhere, changed);
+    let after = crate::running::phased(st, s, Phase::Running);
     let end = chain::walk::chain_end(after, TaskNo(s.0));
     let executes = crate::running::executes_end(after, s, end);
     Outcome {

@@ -6,11 +6,10 @@ ghost use Rattle.model.specs.Step.{attempted};
 use model::Answer;
 use model::Event;
 use model::Outcome;
-use model::Runs;
 use model::State;
 
 // The clock and every Running server's spending advance by n; all servers reaching 0 become Recharging together, then rule H.
-pub fn elapse(st: State, n: u32) -> Outcome
+pub fn elapse(mut st: State, n: u32) -> Outcome
     requires { ⌜ sound st ≡ true ⌝ }
     ensures { λ r. ⌜ r ≡ attempted st (Event.Elapse n) ⌝ }
 {
@@ -24,16 +23,16 @@ pub fn elapse(st: State, n: u32) -> Outcome
     if !crate::spending::all_afford(st, n) {
         return crate::entries::refused(st, 12);
     }
+    let before = settle::rule::executors(st, st.tasks);
     let ends = chain::walk::chain_ends(st);
     let spent = crate::spending::spent_servers(st, &ends, n);
     let servers = spent.server;
     let tasks = crate::spending::ticked_tasks(st, n);
-    let mut changed = st;
-    changed.clock = clock;
-    changed.server = servers;
-    changed.task = tasks;
+    st.clock = clock;
+    st.server = servers;
+    st.task = tasks;
     Outcome {
         answer: Answer::Ok(spent.count),
-        state: settle::rule::settled(st, Runs::Nowhere, changed),
+        state: settle::rule::settled(&before, 16, st),
     }
 }

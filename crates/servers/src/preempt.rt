@@ -5,7 +5,6 @@ use model::Answer;
 use model::Event;
 use model::Outcome;
 use model::Phase;
-use model::Runs;
 use model::ServerNo;
 use model::State;
 use model::TaskNo;
@@ -25,8 +24,7 @@ pub fn preempt(st: State, s: ServerNo) -> Outcome
     }
     let end = chain::walk::chain_end(st, TaskNo(s.0));
     let executed = crate::running::executes_end(st, s, end);
-    let changed = crate::running::phased(st, s, Phase::Active);
-    let after = settle::rule::settled(st, Runs::Nowhere, changed);
+    let after = crate::running::phased(st, s, Phase::Active);
     let task = after.task[end.0 as usize];
     let runs = task.runs;
     let passed = model::entries::both(executed, model::entries::is_placed(runs));

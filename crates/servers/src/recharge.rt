@@ -3,8 +3,9 @@ ghost use mathlib.Core.Path.{_≡_};
 ghost use mathlib.Core.Bool.{true};
 ghost use Prim.Native.Nat.{_+_, _<_};
 ghost use Rattle.laws.specs.Tests.{if_then_else_};
-ghost use Rattle.model.specs.State.{suspended, here, serverAt};
+ghost use Rattle.model.specs.State.{nobody, suspended, here, serverAt};
 ghost use Rattle.model.specs.Sound.{sound};
+ghost use Rattle.model.specs.RuleH.{settled};
 ghost use Rattle.model.specs.Events.{recharged};
 ghost use Rattle.model.specs.Step.{attempted};
 use model::Answer;
@@ -12,7 +13,6 @@ use model::Event;
 use model::Mode;
 use model::Outcome;
 use model::Phase;
-use model::Runs;
 use model::ServerNo;
 use model::State;
 use model::TaskNo;
@@ -28,21 +28,21 @@ fn recharged_phase(mode: Mode) -> Phase
     }
 }
 
-// Budget Q, deadline clock + P.
-fn recharged(st: State, s: ServerNo) -> State
+// Budget Q, deadline clock + P, and rule H. It writes into the state that it is given.
+fn recharged(mut st: State, s: ServerNo) -> State
     requires { ⌜ here st (s .0) ≡ true ⌝ }
     requires { ⌜ st .clock + serverAt st (s .0) .period < 4294967296 ⌝ }
-    ensures { λ r. ⌜ r ≡ recharged st (s .0) ⌝ }
+    ensures { λ r. ⌜ r ≡ settled st nobody (recharged st (s .0)) ⌝ }
 {
     let at = s.0 as usize;
+    let before = settle::rule::executors(st, st.tasks);
     let server = st.server[at];
     let end = chain::walk::chain_end(st, TaskNo(s.0));
     let task = st.task[end.0 as usize];
     let mode = task.mode;
     let phase = recharged_phase(mode);
-    let mut changed = st;
-    changed.server[at] = crate::serving::refilled(server, phase, st.clock);
-    changed
+    st.server[at] = crate::serving::refilled(server, phase, st.clock);
+    settle::rule::settled(&before, 16, st)
 }
 
 // When clock ≥ deadline: budget Q, deadline clock + P, Active or Idle; 1 for Active, 0 for Idle.
@@ -64,7 +64,7 @@ pub fn recharge(st: State, s: ServerNo) -> Outcome
     if early {
         return crate::entries::refused(st, 14);
     }
-    let after = settle::rule::settled(st, Runs::Nowhere, recharged(st, s));
+    let after = recharged(st, s);
     let full = after.server[at];
     let full_phase = full.phase;
     Outcome {

@@ -2,7 +2,8 @@
 ghost use mathlib.Core.Path.{_≡_};
 ghost use mathlib.Core.Bool.{true};
 ghost use Rattle.laws.specs.Loops.{countTo};
-ghost use Rattle.model.specs.State.{here, served, runningAt, executes};
+ghost use Rattle.model.specs.State.{nobody, here, served, runningAt, executes};
+ghost use Rattle.model.specs.RuleH.{settled};
 ghost use Rattle.model.specs.Events.{phased};
 use model::Phase;
 use model::ServerNo;
@@ -25,16 +26,16 @@ pub fn running_count(st: State) -> u16
     count
 }
 
-// The state with a server in another phase.
-pub fn phased(st: State, s: ServerNo, phase: Phase) -> State
+// The state with a server in another phase, after rule H. It writes into the state that it is given: copies of a state are what a step spends most on.
+pub fn phased(mut st: State, s: ServerNo, phase: Phase) -> State
     requires { ⌜ here st (s .0) ≡ true ⌝ }
-    ensures { λ r. ⌜ r ≡ phased phase st (s .0) ⌝ }
+    ensures { λ r. ⌜ r ≡ settled st nobody (phased phase st (s .0)) ⌝ }
 {
     let at = s.0 as usize;
+    let before = settle::rule::executors(st, st.tasks);
     let server = st.server[at];
-    let mut changed = st;
-    changed.server[at] = crate::entries::with_phase(server, phase);
-    changed
+    st.server[at] = crate::entries::with_phase(server, phase);
+    settle::rule::settled(&before, 16, st)
 }
 
 // Whether server s, which serves the task `end`, executes it.

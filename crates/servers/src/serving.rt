@@ -13,7 +13,6 @@ use model::Answer;
 use model::Mode;
 use model::Outcome;
 use model::Phase;
-use model::Runs;
 use model::Server;
 use model::State;
 use model::TaskNo;
@@ -105,22 +104,22 @@ fn mode_after(turn: Turn) -> Mode
     }
 }
 
-// The task takes the mode of the turn, its servers turn, rule H settles, and the answer is how many turned.
-pub fn turn_task(st: State, t: TaskNo, turn: Turn) -> Outcome
+// The task takes the mode of the turn, its servers turn, rule H settles, and the answer is how many turned. It writes into the state that it is given.
+pub fn turn_task(mut st: State, t: TaskNo, turn: Turn) -> Outcome
     requires { ⌜ here st (t .0) ≡ true ⌝ }
     requires { ⌜ ((i : ℕ) → here st i ≡ true → Timely turn (st .clock + serverAt st i .period)) ⌝ }
     ensures { λ r. ⌜ r ≡ turnedOutcome turn st (t .0) ⌝ }
 {
     let at = t.0 as usize;
+    let before = settle::rule::executors(st, st.tasks);
     let ends = chain::walk::chain_ends(st);
     let turned = turned_servers(st, &ends, t, turn);
     let servers = turned.server;
     let task = st.task[at];
-    let mut changed = st;
-    changed.server = servers;
-    changed.task[at] = crate::entries::with_mode(task, mode_after(turn));
+    st.server = servers;
+    st.task[at] = crate::entries::with_mode(task, mode_after(turn));
     Outcome {
         answer: Answer::Ok(turned.count),
-        state: settle::rule::settled(st, Runs::Nowhere, changed),
+        state: settle::rule::settled(&before, 16, st),
     }
 }

@@ -250,6 +250,24 @@ module _ (st : State) where
   unfolding settledBy settledTo settled
   settled-by old acting = ap (λ ts. withTasks ts st) (set-same _ _ places (st .task) (task-is old acting))
 
+-- rule H by the state's own ends
+pub settled-ends
+    : (st after : State) (ends before : List ℕ) (acting : ℕ)
+    → ends ≡ endsOf st
+    → after ≡ settledBy ends before acting st
+    → after ≡ settledBy (endsOf st) before acting st
+settled-ends st after ends before acting e h = h ∙ ap (λ x. settledBy x before acting st) e
+
+-- for whoever calls `settled` after an event that is no lock or unlock
+pub settled-from
+    : (old st after : State) (before : List ℕ)
+    → before ≡ executorsOf (old .tasks) old
+    → st .tasks ≡ old .tasks
+    → after ≡ settledBy (endsOf st) before nobody st
+    → after ≡ settled old nobody st
+settled-from old st after before b n h =
+    h ∙ ap (λ x. settledBy (endsOf st) x nobody st) (b ∙ ap (λ k. executorsOf k old) (sym n)) ∙ settled-by st old nobody
+
 -- for whoever calls `settled_by`
 pub settled-is
     : (old st after : State) (ends before : List ℕ) (acting a : ℕ)

@@ -3,9 +3,8 @@
 ghost use mathlib.Core.Path.{_≡_};
 ghost use Prim.Native.Nat.{_<_};
 ghost use Rattle.laws.specs.Tests.{if_then_else_};
-ghost use Rattle.model.specs.State.{placeNo};
-ghost use Rattle.model.specs.RuleH as rule;
 ghost use Rattle.model.specs.RuleH.{runsIn, withRuns};
+ghost use Rattle.chain.specs.Arrays.{endsOf};
 ghost use Rattle.settle.specs.Arrays.{executorsOf, onBy, budgetsOf, servesBy, betterBy, bestsBy, executorIn, settledBy};
 use model::Runs;
 use model::Server;
@@ -170,12 +169,11 @@ pub fn settled_by<'a>(
     st
 }
 
-// The state after rule H: `old` is the state before the event, `acting` where the task that locked or unlocked executed then, `st` the changed state.
-pub fn settled(old: State, acting: Runs, st: State) -> State
-    ensures { λ r. ⌜ r ≡ rule.settled old (placeNo acting) st ⌝ }
+// The state after rule H: `before` says who executed each task before the event, `acting` where the task that locked or unlocked executed then, `st` is
+// the changed state. By the law `settled-from` it is document 01's, whose first argument is the state before.
+pub fn settled(before: &[usize; 16], acting: usize, st: State) -> State
+    ensures { λ r. ⌜ r ≡ settledBy (endsOf st) (now (before .entry)) acting st ⌝ }
 {
-    let count = st.tasks;
-    let before = executors(old, count);
     let ends = chain::walk::chain_ends(st);
-    settled_by(&ends, &before, model::entries::place_no(acting), st)
+    settled_by(&ends, before, acting, st)
 }

@@ -1,4 +1,5 @@
 -- `servers::dispatch::dispatch` meets its contract. Assumes nothing.
+use mathlib.Core.Path.{refl}
 use borrow.Author.Needs.{needs}
 use Rattle.laws.specs.Tests.{firstOf}
 use Rattle.model.specs.declared.Event.the-variants.{Dispatch}
@@ -39,16 +40,15 @@ dispatch-spec =
     let used = c .before .before .before .before .before in
     told-yes (used .before .in-use .ensures) (used .if1 .left))
     (λ c κs. search needs)
-    (λ c κs. search needs)
     (λ c κs.
-    let phased = c .before .before in
+    let phased = c .before in
     let used = phased .before .before .before .before .before .before in
     let args = used .before .before .before .args in
-    (here-phased _ (args .t1) _ _ _ (args .s .0) _ _ (told-yes (used .before .in-use .ensures) (used .if1 .left)) (phased .phased .ensures) (c .before .settled .ensures), c .chain-end .ensures))
+    (here-phased _ (args .t1) (args .s .0) (args .s .0) _ (told-yes (used .before .in-use .ensures) (used .if1 .left)) (phased .phased .ensures), c .chain-end .ensures))
     (λ c κs. search needs)
     (λ c.
     let ended = c .before .before in
-    let phased = ended .before .before in
+    let phased = ended .before in
     let free = phased .before in
     let tested = free .before .before in
     let used = tested .before .before .before in
@@ -57,6 +57,6 @@ dispatch-spec =
     let seats = crowded-no _ _ (free .before .running-count .ensures) (free .if3 .left) in
     accepts (args .t1) (Dispatch (args .s)) _ _ _
     (rw (told-yes (used .before .in-use .ensures) (used .if1 .left), active, seats))
+    refl
     (phased .phased .ensures)
-    (ended .before .settled .ensures)
     (dispatch-answers (args .t1) _ _ _ _ _ (ended .chain-end .ensures) (c .before .executes-end .ensures) (c .executes-or-spins .ensures))))

@@ -7,7 +7,7 @@ use Rattle.laws.specs.Tests.{firstOf}
 use Rattle.model.specs.declared.Event.the-variants.{Elapse}
 use Rattle.model.specs.Step.{attempted}
 use Rattle.model.proofs.Sound.{sound-facts}
-use Rattle.servers.proofs.Outcomes.{told-no, told-yes, accepts, ticks-most, elapse-changes, elapse-answers}
+use Rattle.servers.proofs.Outcomes.{told-no, told-yes, accepts, ticks-most, elapse-changes, elapse-settles, elapse-answers}
 use Rattle.servers.proofs.elapse.elapse.Statement.{statement}
 use Rattle.servers.proofs.elapse.elapse.Tie as tie
 
@@ -38,24 +38,25 @@ elapse-spec =
     (sym (few .before .either .ensures) ∙ few .if1 .left, le-ltb 4000000000 _ (early .if2 .left), told-no (tested .all-afford .ensures) (c .before .if3 .taken))
     (c .refused3 .ensures))
     (λ c κs. search needs)
+    (λ c κs. search needs)
     (λ c κs.
-    let lasting = c .before .before in
+    let lasting = c .before .before .before in
     let early = lasting .before .before in
     let start = early .before .before .before .before in
     (c .before .chain-ends .ensures, (start .pre, (early .if2 .left, told-yes (lasting .before .all-afford .ensures) (lasting .if3 .left)))))
     (λ c κs.
-    let early = c .before .before .before .before .before .before in
+    let early = c .before .before .before .before .before .before .before in
     (early .before .before .before .before .pre, early .if2 .left))
     (λ c κs. search needs)
     (λ c.
-    let ticked = c .before in
+    let ticked = c .before .before in
     let spent = ticked .before .before in
-    let lasting = spent .before .before .before in
+    let lasting = spent .before .before .before .before in
     let early = lasting .before .before in
     let few = early .before .before in
     let args = few .before .before .args in
     accepts (args .st) (Elapse (args .n)) _ _ _
     (rw (sym (few .before .either .ensures) ∙ few .if1 .left, le-ltb 4000000000 _ (early .if2 .left), told-yes (lasting .before .all-afford .ensures) (lasting .if3 .left)))
     (elapse-changes _ _ _ _ (spent .spent-servers .ensures) (ticked .ticked-tasks .ensures))
-    (c .settled .ensures)
+    (elapse-settles (args .st) (args .n) _ _ _ _ (spent .before .before .before .executors .ensures) (c .settled .ensures))
     (elapse-answers _ (c .settled .result) _ _ (spent .spent-servers .ensures))))

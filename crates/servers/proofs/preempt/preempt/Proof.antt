@@ -1,4 +1,5 @@
 -- `servers::preempt::preempt` meets its contract. Assumes nothing.
+use mathlib.Core.Path.{refl}
 use borrow.Author.Needs.{needs}
 use Rattle.laws.specs.Tests.{firstOf}
 use Rattle.model.specs.declared.Event.the-variants.{Preempt}
@@ -34,11 +35,10 @@ preempt-spec =
     (λ c κs.
     let used = c .before .before .before .before .before in
     told-yes (used .before .in-use .ensures) (used .if1 .left))
-    (λ c κs. search needs)
     (λ c. search needs)
     (λ c. search needs)
     (λ c.
-    let ended = c .before .before .before .before in
+    let ended = c .before .before .before in
     let used = ended .before .before .before .before in
     end-here (used .before .before .before .args .t1) _ _ (told-yes (used .before .in-use .ensures) (used .if1 .left)) (ended .chain-end .ensures))
     (λ c κs. search needs)
@@ -46,8 +46,7 @@ preempt-spec =
     (λ c κs. search needs)
     (λ c.
     let placed = c .before .before in
-    let settled = placed .before .before .before in
-    let phased = settled .before in
+    let phased = placed .before .before .before in
     let executed = phased .before in
     let ended = executed .before in
     let tested = ended .before in
@@ -55,9 +54,9 @@ preempt-spec =
     let args = used .before .before .before .args in
     accepts (args .t1) (Preempt (args .s)) _ _ _
     (rw (told-yes (used .before .in-use .ensures) (used .if1 .left), told-yes (tested .before .is-running .ensures) (tested .if2 .left)))
+    refl
     (phased .phased .ensures)
-    (settled .settled .ensures)
-    (preempt-answers _ (settled .settled .result) _ _ _ _ _ _
+    (preempt-answers _ (phased .phased .result) _ _ _ _ _ _
     (ended .chain-end .ensures)
     (executed .executes-end .ensures)
     (placed .is-placed .ensures)

@@ -1,5 +1,5 @@
 -- `servers::recharge::recharge` meets its contract. Assumes nothing.
-use mathlib.Core.Path.{ap, _∙_}
+use mathlib.Core.Path.{refl, ap, _∙_}
 use borrow.Author.Needs.{needs}
 use Rattle.laws.specs.Tests.{bit, firstOf}
 use Rattle.model.specs.declared.Event.the-variants.{Recharge}
@@ -40,21 +40,20 @@ recharge-spec =
     let start = used .before .before .before in
     let in-use = told-yes (used .before .in-use .ensures) (used .if1 .left) in
     (in-use, deadline-fits (start .args .t1) (start .pre) _ in-use))
-    (λ c κs. search needs)
     (λ c. search needs)
     (λ c.
-    let used = c .before .before .before .before .before .before .before in
+    let used = c .before .before .before .before .before .before in
     here-below (used .before .before .before .args .t1) _ (told-yes (used .before .in-use .ensures) (used .if1 .left)))
     (λ c κs. search needs)
     (λ c κs. search needs)
     (λ c.
     let settled = c .before .before .before in
-    let due = settled .before .before in
+    let due = settled .before in
     let tested = due .before in
     let used = tested .before .before .before .before in
     let args = used .before .before .before .args in
     accepts (args .t1) (Recharge (args .s)) _ _ _
     (rw (told-yes (used .before .in-use .ensures) (used .if1 .left), told-yes (tested .before .before .is-recharging .ensures) (tested .if2 .left), due .if3 .left))
-    (settled .before .recharged .ensures)
-    (settled .settled .ensures)
+    refl
+    (settled .recharged .ensures)
     (ap Ok (c .one-if .ensures ∙ ap bit (c .before .is-active .ensures)))))

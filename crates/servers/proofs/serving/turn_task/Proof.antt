@@ -12,15 +12,18 @@ turn-task-spec =
     (λ c. search needs)
     (λ c κs. search needs)
     (λ c κs. search needs)
+    (λ c κs. search needs)
     (λ c. search needs)
-    (λ c. here-below _ _ (c .before .before .before .before .before .pre .0))
+    (λ c. here-below _ _ (c .before .before .before .before .before .before .pre .0))
     (λ c κs. search needs)
     (λ c κs. search needs)
     (λ c. search needs)
-    (λ c. here-below _ _ (c .before .before .before .before .before .before .before .before .pre .0))
+    (λ c. here-below _ _ (c .before .before .before .before .before .before .before .before .before .pre .0))
     (λ c κs. search needs)
     (λ c.
-    let moded = c .before .with-mode in
-    let mode = c .before .before .mode-after in
-    let turned = c .before .before .before .before .before .turned-servers in
-    turned-does _ _ _ _ _ _ _ (turned .ensures) (mode .ensures) (moded .ensures) (c .settled .ensures)))
+    let moded = c .before .before in
+    let mode = moded .before in
+    let turned = mode .before .before .before in
+    turned-does _ _ _ _ _ _ _ _ (turned .turned-servers .ensures) (mode .mode-after .ensures) (moded .with-mode .ensures)
+    (turned .before .before .before .executors .ensures)
+    (c .settled .ensures)))

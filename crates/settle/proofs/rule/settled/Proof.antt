@@ -1,6 +1,6 @@
 -- `settle::rule::settled` meets its contract. Assumes nothing.
 use borrow.Author.Needs.{needs}
-use Rattle.settle.proofs.Arrays.{settled-is}
+use Rattle.settle.proofs.Arrays.{settled-ends}
 use Rattle.settle.proofs.rule.settled.Statement.{statement}
 use Rattle.settle.proofs.rule.settled.Tie as tie
 
@@ -10,12 +10,4 @@ settled-spec =
     (tie.spec
     (λ c κs. search needs)
     (λ c κs. search needs)
-    (λ c κs. search needs)
-    (λ c κs. search needs)
-    (λ c.
-    let arrays = c .before .before .before .before in
-    settled-is _ _ _ _ _ _ _
-    (arrays .chain-ends .ensures)
-    (arrays .before .executors .ensures)
-    (c .before .place-no .ensures)
-    (c .settled-by .ensures)))
+    (λ c. settled-ends _ _ _ _ _ (c .before .before .chain-ends .ensures) (c .settled-by .ensures)))
