@@ -1,0 +1,60 @@
+// Replays the trace on standard input and writes its listing to standard output. What matters is in the crate `listing`; here is what reads and writes,
+// of which no contract can speak.
+ghost use mathlib.Core.Path.{_≡_};
+ghost use Prim.Native.Nat.{_≤_};
+ghost use lib.ListN.{length};
+ghost use Rattle.listing.specs.Listing.{listing};
+ghost use Rattle.listing.specs.Replay.{room};
+ghost use Rattle.replay.specs.Input.{Within};
+use listing::Replayed;
+use listing::buffers::file_buffer;
+use listing::buffers::text_buffer;
+
+// How many bytes were read, or that a read failed.
+enum Input {
+    Whole(usize),
+    Failed,
+}
+
+// Reads until the buffer is full or the input ends.
+fn read_all(file: &mut [u8]) -> Input
+    ensures { λ r. ⌜ Within r (length (now (file .exit))) ⌝ }
+{
+    let mut n: usize = 0;
+    while n < file.len() {
+        let got = libc::read(libc::STDIN_FILENO, &mut file[n..]);
+        if got < 0 {
+            return Input::Failed;
+        }
+        let more = io::count(got, &file[n..]);
+        if more == 0 {
+            return Input::Whole(n);
+        }
+        n += more;
+    }
+    Input::Whole(n)
+}
+
+// The listing in a buffer that is long enough, and its length.
+fn put_whole(file: &[u8], out: &mut [u8]) -> usize
+    requires { ⌜ room (length (now file)) ≤ length (now out) ⌝ }
+    ensures { λ r. ⌜ (r ≡ length (listing (now (file .entry)))) × (r ≤ length (now (out .exit))) ⌝ }
+{
+    let Replayed::Written(n) = listing::whole::replay(file, out) else {
+        return 0;
+    };
+    n
+}
+
+fn main() {
+    let mut file = file_buffer();
+    let Input::Whole(n) = read_all(&mut file) else {
+        os::fail(b"replay");
+        return;
+    };
+    let mut out = text_buffer();
+    let written = put_whole(&file[..n], &mut out);
+    if !io::write_all(libc::STDOUT_FILENO, &out[..written]) {
+        os::fail(b"replay");
+    }
+}
