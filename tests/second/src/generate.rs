@@ -2,6 +2,7 @@
 //!
 //! - `runs`: `Run::any(seed, length)`, a table with events, and its trace;
 //! - `damage`: `damaged_trace` and `trace_with`, traces that are faulty in every way;
+//! - `long`: `longest`, `too_long` and `past_the_clock`, traces that are too long to store;
 //! - `sections`: `good_question`, `tight_questions` and `bad_question` for the bound;
 //! - `states`: `sound_state`, `perturbed_state` and `broken_state`, which no events need reach;
 //! - `tables`: `good_table` and `bad_table` for `fresh`;
@@ -14,6 +15,7 @@
 pub mod coverage;
 pub mod damage;
 pub mod events;
+pub mod long;
 pub mod random;
 pub mod runs;
 pub mod scenes;

@@ -2,9 +2,11 @@
 //!
 //! `generate report SEED ROUNDS` tells how often the cases reach each answer, refusal, stop, clause
 //! and branch, and fails if one was never reached. `generate trace SEED EVENTS` writes a trace with
-//! so many random events, `generate damaged SEED EVENTS` the same with damage. Assumes nothing.
+//! so many random events, `generate damaged SEED EVENTS` the same with damage. `generate longest`,
+//! `generate too_long` and `generate past_the_clock` each write one fixed trace. Assumes nothing.
 
 use second::generate::damage::damaged_trace;
+use second::generate::long::{longest, past_the_clock, too_long};
 use second::generate::random::Random;
 use second::generate::runs::Run;
 use second::generate::survey::survey;
@@ -13,7 +15,8 @@ use std::process::ExitCode;
 
 const USAGE: &str = "usage: generate report SEED ROUNDS
        generate trace SEED EVENTS
-       generate damaged SEED EVENTS";
+       generate damaged SEED EVENTS
+       generate longest | too_long | past_the_clock";
 
 fn main() -> ExitCode {
     let words: Vec<String> = std::env::args().skip(1).collect();
@@ -27,12 +30,24 @@ fn main() -> ExitCode {
 }
 
 fn answer(words: &[String]) -> Result<ExitCode, String> {
-    let [command, seed, amount] = words else {
-        return Err("expected three words".to_string());
-    };
-    let seed = number(seed)?;
-    let amount = number(amount)?;
-    match command.as_str() {
+    match words {
+        [command] => fixed(command),
+        [command, seed, amount] => seeded(command, number(seed)?, number(amount)?),
+        _ => Err("expected one word or three".to_string()),
+    }
+}
+
+fn fixed(command: &str) -> Result<ExitCode, String> {
+    match command {
+        "longest" => write_out(&longest()),
+        "too_long" => write_out(&too_long()),
+        "past_the_clock" => write_out(&past_the_clock()),
+        _ => Err(format!("unknown command `{command}`")),
+    }
+}
+
+fn seeded(command: &str, seed: u64, amount: u64) -> Result<ExitCode, String> {
+    match command {
         "report" => report(seed, amount),
         "trace" => write_out(&Run::any(seed, amount as usize).trace()),
         "damaged" => {

@@ -1,5 +1,5 @@
 //! The tests of this program: case R, the examples and slips of document 01, the readings that can
-//! be tested, the programs, and long random runs.
+//! be tested, the stored traces, the table of refusals, the programs, and long random runs.
 //!
 //! Assumes nothing. `bench.rs` holds the words that the other files are written in.
 
@@ -14,5 +14,7 @@ mod readings_bound;
 mod readings_events;
 mod readings_state;
 mod readings_trace;
+mod refusal_table;
 mod slips;
 mod states;
+mod stored;
