@@ -147,3 +147,41 @@ fn the_longest_trace_is_deep_and_accepted() {
     assert!(listing.contains(" waits 15\n") && listing.contains(" passed 0\n"));
     assert!(told(&listing).len() < 4);
 }
+
+/// The section of `docs/TRACE.md` that works case R through.
+fn page_on_case_r() -> &'static str {
+    let page = include_str!("../../../../docs/TRACE.md");
+    let (_, section) = page.split_once("## Case R").expect("the page has case R");
+    section.split("\n## ").next().unwrap_or_default()
+}
+
+#[test]
+fn the_technicians_page_works_case_r_through() {
+    let section = page_on_case_r();
+    let rows = section.lines().filter(|line| line.starts_with("| "));
+    let (mut trace, mut listing) = (Vec::new(), String::new());
+    for row in rows.skip(1) {
+        let cells: Vec<&str> = row
+            .split('|')
+            .map(|cell| cell.trim_matches([' ', '`']))
+            .collect();
+        assert_eq!(number(cells[1]) as usize, trace.len(), "{row}");
+        assert_eq!(
+            hexadecimal(&[&cells[2].replace(' ', "")]),
+            line_bytes(cells[3]),
+            "{row}"
+        );
+        trace.extend(line_bytes(cells[3]));
+        listing += cells[4];
+        listing += if cells[4].is_empty() { "" } else { "\n" };
+    }
+    for line in section.lines().filter_map(|line| line.strip_prefix("    ")) {
+        listing += line.split("  ").next().unwrap_or_default();
+        listing += "\n";
+    }
+    assert_eq!(
+        trace,
+        fs::read(root().join("crates/replay/stdin")).expect("it is stored")
+    );
+    assert_eq!(listing.as_bytes(), include_bytes!("case_r.listing"));
+}
