@@ -29,18 +29,19 @@ main-spec =
     (λ c. search needs)
     (λ c κs. search needs)
     (λ c. within _ _ _ (c .before .before .before .before .before .read-all .ensures) (c .before .before .n .given .1))
-    (λ c. sym (length-take-le _ _ (within _ _ _ (c .before .before .before .before .before .before .read-all .ensures) (c .before .before .before .n .given .1))))
+    (λ c.
+    let told = c .before .before .before in
+    sym (length-take-le _ _ (within _ _ _ (told .before .before .before .read-all .ensures) (told .n .given .1))))
     (λ c. search needs)
     (λ c κs.
     let told = c .before .before .before .before in
     let read = told .before .before .before in
+    let n = told .n .given .0 .0 in
+    let file = read .read-all .last .0 in
     let fits = within _ _ _ (read .read-all .ensures) (told .n .given .1) in
-    omega (
-      arith,
-      buffers-enough (length (take (told .n .given .0 .0) (read .read-all .last .0)))
-          (omega (arith, read .read-all .kept .0, read .before .before .file-buffer .ensures .1, length-take-le (told .n .given .0 .0) (read .read-all .last .0) fits)),
-      c .before .before .text-buffer .ensures .1,
-    ))
+    let size = length-take-le n file fits in
+    let short : length (take n file) ≤ 60001 = omega (arith, read .read-all .kept .0, read .before .before .file-buffer .ensures .1) in
+    omega (arith, buffers-enough (length (take n file)) short, c .before .before .text-buffer .ensures .1))
     (λ c. search needs)
     (λ c. sym (length-take-le _ _ (c .before .before .put-whole .ensures .1)))
     (λ c κs. search needs)
