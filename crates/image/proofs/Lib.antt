@@ -1,0 +1,5 @@
+pub mod Stands
+pub mod Codec
+pub mod Parts
+pub mod Image
+pub mod Puts

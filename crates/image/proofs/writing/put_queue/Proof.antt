@@ -1,0 +1,29 @@
+-- `image::writing::put_queue` meets its contract. Assumes nothing.
+use Prim.Native.Nat.{_-_}
+use native.Mathlib.Omega.{arith}
+use Rattle.image.specs.Encoded.{entries, entryBytes, noTaskNo, taskNoBytes}
+use Rattle.image.proofs.Puts.{Filled, filled-none, filled-more, filled-done, two-long}
+use Rattle.image.proofs.writing.put_queue.Statement.{statement}
+use Rattle.image.proofs.writing.put_queue.Tie as tie
+
+pub put-queue-spec : {M : Type 1} → statement M
+unfolding entries entryBytes taskNoBytes
+put-queue-spec =
+    tie.close
+    (tie.spec
+    (λ bytes₀ at queue i₀ bytes i. Filled (entryBytes taskNoBytes noTaskNo queue) bytes₀ at bytes i)
+    (λ bytes₀ at queue i₀ bytes i. 16 - i)
+    (λ c. filled-none _ _ _)
+    (λ c. omega arith)
+    (λ c. omega arith)
+    (λ c. omega arith)
+    (λ c. omega arith)
+    (λ c κs. omega arith)
+    (λ c. omega arith)
+    (λ c. omega arith)
+    (λ c.
+    let put = c .before .before in
+    let turn = put .before .before .before in
+    filled-more 2 (λ j. two-long _) (turn .before .loop .inv) (turn .loop-test .taken) _ (put .put-two .ensures))
+    (λ c. c .before .loop .inv .same)
+    (λ c. filled-done (c .before .loop .inv) (c .loop-test .left)))

@@ -1,0 +1,4 @@
+pub mod Layout
+pub mod Encoded
+pub mod Decoded
+pub mod Fits

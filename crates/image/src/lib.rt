@@ -1,0 +1,23 @@
+// A state in lent bytes: a fixed layout, little-endian (docs/STATE.md), for callers that keep the state on their side of the library.
+// Writing and reading give each other back (specs, laws `decoded-encoded` and `encoded-decoded`). No assumption on the bytes or the state.
+use model::State;
+
+pub enum ImageAnswer {
+    Held,
+    // 1: the bytes are no state's
+    Refused(u16),
+}
+
+// What reading gives back. The answer stands beside the state, since an enum holds no array.
+pub struct Imaged {
+    pub answer: ImageAnswer,
+    pub state: State,
+}
+
+mod blank;
+pub mod numbers;
+pub mod reading;
+pub mod sizes;
+mod tags;
+mod testing;
+pub mod writing;

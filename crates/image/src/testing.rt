@@ -1,0 +1,79 @@
+// Which bytes are an image. Each test of an entry is given a place at which the entry lies whole in the slice.
+ghost use mathlib.Core.Path.{_≡_};
+ghost use Prim.Native.Nat.{_+_, _<_, _≤_};
+ghost use lib.ListN.{length};
+ghost use Rattle.image.specs.Layout.{imageSize};
+ghost use Rattle.image.specs.Decoded.{taggedFits, serverFits, taskFits, resourceFits, entriesFit, isImage};
+use crate::numbers::two_bytes;
+use crate::sizes::IMAGE_SIZE;
+use crate::sizes::RESOURCE_SIZE;
+use crate::sizes::RESOURCES_PLACE;
+use crate::sizes::SERVER_SIZE;
+use crate::sizes::SERVERS_PLACE;
+use crate::sizes::TASK_SIZE;
+use crate::sizes::TASKS_PLACE;
+use crate::tags::tag_fits;
+
+fn tagged_fits(last: u8, bytes: &[u8], at: usize) -> bool
+    requires { ⌜ at + 3 ≤ length (now bytes) ⌝ }
+    ensures { λ r. ⌜ r ≡ taggedFits last (now (bytes .entry)) at ⌝ }
+{
+    let tag = bytes[at];
+    let number = two_bytes(bytes, at + 1);
+    tag_fits(last, tag, number)
+}
+
+fn server_fits(bytes: &[u8], at: usize) -> bool
+    requires { ⌜ at + 1 ≤ length (now bytes) ⌝ }
+    ensures { λ r. ⌜ r ≡ serverFits (now (bytes .entry)) at ⌝ }
+{
+    bytes[at] < 4
+}
+
+fn task_fits(bytes: &[u8], at: usize) -> bool
+    requires { ⌜ at + 6 ≤ length (now bytes) ⌝ }
+    ensures { λ r. ⌜ r ≡ taskFits (now (bytes .entry)) at ⌝ }
+{
+    if tagged_fits(2, bytes, at) {
+        tagged_fits(1, bytes, at + 3)
+    } else {
+        false
+    }
+}
+
+fn resource_fits(bytes: &[u8], at: usize) -> bool
+    requires { ⌜ at + 3 ≤ length (now bytes) ⌝ }
+    ensures { λ r. ⌜ r ≡ resourceFits (now (bytes .entry)) at ⌝ }
+{
+    tagged_fits(1, bytes, at)
+}
+
+// Server, task and resource i.
+fn entries_fit(bytes: &[u8], i: usize) -> bool
+    requires { ⌜ (length (now bytes) ≡ imageSize) × (i < 16) ⌝ }
+    ensures { λ r. ⌜ r ≡ entriesFit (now (bytes .entry)) i ⌝ }
+{
+    if server_fits(bytes, SERVERS_PLACE + SERVER_SIZE * i) {
+        if task_fits(bytes, TASKS_PLACE + TASK_SIZE * i) {
+            resource_fits(bytes, RESOURCES_PLACE + RESOURCE_SIZE * i)
+        } else {
+            false
+        }
+    } else {
+        false
+    }
+}
+
+pub fn is_image(bytes: &[u8]) -> bool
+    ensures { λ r. ⌜ r ≡ isImage (now (bytes .entry)) ⌝ }
+{
+    if bytes.len() != IMAGE_SIZE {
+        return false;
+    }
+    for i in 0..16usize {
+        if !entries_fit(bytes, i) {
+            return false;
+        }
+    }
+    true
+}

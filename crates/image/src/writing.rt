@@ -1,0 +1,149 @@
+// A state written into lent bytes. Each function of an entry is given a place at which the entry lies whole in the slice; `write` assumes nothing.
+ghost use mathlib.Core.Path.{_≡_};
+ghost use Prim.Native.Nat.{_+_, _≤_};
+ghost use lib.Dec.{eqb};
+ghost use lib.ListN.{length};
+ghost use Rattle.model.specs.State.{noServer, noTask, noResource};
+ghost use Rattle.image.specs.Layout.{serversPlace, tasksPlace, resourcesPlace, imageSize, stored};
+ghost use Rattle.image.specs.Encoded.{two, tagged, entries, noTaskNo, taskNoBytes, serverBytes, taskBytes, resourceBytes, written};
+use crate::numbers::put_four;
+use crate::numbers::put_one;
+use crate::numbers::put_two;
+use crate::sizes::IMAGE_SIZE;
+use crate::sizes::RESOURCE_SIZE;
+use crate::sizes::RESOURCES_PLACE;
+use crate::sizes::SERVER_SIZE;
+use crate::sizes::SERVERS_PLACE;
+use crate::sizes::TASK_SIZE;
+use crate::sizes::TASKS_PLACE;
+use crate::tags::mode_number;
+use crate::tags::mode_tag;
+use crate::tags::owner_number;
+use crate::tags::owner_tag;
+use crate::tags::phase_tag;
+use crate::tags::runs_number;
+use crate::tags::runs_tag;
+use model::Resource;
+use model::Server;
+use model::State;
+use model::Task;
+use model::TaskNo;
+
+fn put_tagged(bytes: &mut [u8], at: usize, tag: u8, number: u16)
+    requires { ⌜ at + 3 ≤ length (now bytes) ⌝ }
+    ensures { λ _. ⌜ now (bytes .exit) ≡ stored (now (bytes .entry)) at (tagged tag number) ⌝ }
+{
+    put_one(bytes, at, tag);
+    put_two(bytes, at + 1, number);
+}
+
+fn put_server(bytes: &mut [u8], at: usize, s: Server)
+    requires { ⌜ at + 29 ≤ length (now bytes) ⌝ }
+    ensures { λ _. ⌜ now (bytes .exit) ≡ stored (now (bytes .entry)) at (serverBytes s) ⌝ }
+{
+    let phase = s.phase;
+    put_one(bytes, at, phase_tag(phase));
+    put_four(bytes, at + 1, s.budget);
+    put_four(bytes, at + 5, s.deadline);
+    put_four(bytes, at + 9, s.quota);
+    put_four(bytes, at + 13, s.period);
+    put_four(bytes, at + 17, s.own);
+    put_four(bytes, at + 21, s.lent);
+    put_four(bytes, at + 25, s.spin);
+}
+
+fn put_held(bytes: &mut [u8], at: usize, held: [u16; 16])
+    requires { ⌜ at + 32 ≤ length (now bytes) ⌝ }
+    ensures { λ _. ⌜ now (bytes .exit) ≡ stored (now (bytes .entry)) at (entries two 0 held) ⌝ }
+{
+    for i in 0..16usize {
+        put_two(bytes, at + 2 * i, held[i]);
+    }
+}
+
+fn put_task(bytes: &mut [u8], at: usize, t: Task)
+    requires { ⌜ at + 46 ≤ length (now bytes) ⌝ }
+    ensures { λ _. ⌜ now (bytes .exit) ≡ stored (now (bytes .entry)) at (taskBytes t) ⌝ }
+{
+    let mode = t.mode;
+    let runs = t.runs;
+    let held = t.held;
+    put_tagged(bytes, at, mode_tag(mode), mode_number(mode));
+    put_tagged(bytes, at + 3, runs_tag(runs), runs_number(runs));
+    put_two(bytes, at + 6, t.declared);
+    put_two(bytes, at + 8, t.depth);
+    put_four(bytes, at + 10, t.executed);
+    put_held(bytes, at + 14, held);
+}
+
+fn put_queue(bytes: &mut [u8], at: usize, queue: [TaskNo; 16])
+    requires { ⌜ at + 32 ≤ length (now bytes) ⌝ }
+    ensures { λ _. ⌜ now (bytes .exit) ≡ stored (now (bytes .entry)) at (entries taskNoBytes noTaskNo queue) ⌝ }
+{
+    for i in 0..16usize {
+        let t = queue[i];
+        put_two(bytes, at + 2 * i, t.0);
+    }
+}
+
+fn put_resource(bytes: &mut [u8], at: usize, r: Resource)
+    requires { ⌜ at + 37 ≤ length (now bytes) ⌝ }
+    ensures { λ _. ⌜ now (bytes .exit) ≡ stored (now (bytes .entry)) at (resourceBytes r) ⌝ }
+{
+    let owner = r.owner;
+    let queue = r.queue;
+    put_tagged(bytes, at, owner_tag(owner), owner_number(owner));
+    put_two(bytes, at + 3, r.waiting);
+    put_queue(bytes, at + 5, queue);
+}
+
+fn put_servers(bytes: &mut [u8], servers: [Server; 16])
+    requires { ⌜ length (now bytes) ≡ imageSize ⌝ }
+    ensures { λ _. ⌜ now (bytes .exit) ≡ stored (now (bytes .entry)) serversPlace (entries serverBytes noServer servers) ⌝ }
+{
+    for i in 0..16usize {
+        let s = servers[i];
+        put_server(bytes, SERVERS_PLACE + SERVER_SIZE * i, s);
+    }
+}
+
+fn put_tasks(bytes: &mut [u8], tasks: [Task; 16])
+    requires { ⌜ length (now bytes) ≡ imageSize ⌝ }
+    ensures { λ _. ⌜ now (bytes .exit) ≡ stored (now (bytes .entry)) tasksPlace (entries taskBytes noTask tasks) ⌝ }
+{
+    for i in 0..16usize {
+        let t = tasks[i];
+        put_task(bytes, TASKS_PLACE + TASK_SIZE * i, t);
+    }
+}
+
+fn put_resources(bytes: &mut [u8], resources: [Resource; 16])
+    requires { ⌜ length (now bytes) ≡ imageSize ⌝ }
+    ensures { λ _. ⌜ now (bytes .exit) ≡ stored (now (bytes .entry)) resourcesPlace (entries resourceBytes noResource resources) ⌝ }
+{
+    for i in 0..16usize {
+        let r = resources[i];
+        put_resource(bytes, RESOURCES_PLACE + RESOURCE_SIZE * i, r);
+    }
+}
+
+// The state's image in place of the bytes, and whether they were as many as it has; where they were not, nothing is written.
+pub fn write(st: State, bytes: &mut [u8]) -> bool
+    ensures answer { λ r. ⌜ r ≡ eqb (length (now (bytes .entry))) imageSize ⌝ }
+    ensures image { λ r. ⌜ now (bytes .exit) ≡ written st (now (bytes .entry)) ⌝ }
+{
+    if bytes.len() != IMAGE_SIZE {
+        return false;
+    }
+    let servers = st.server;
+    let tasks = st.task;
+    let resources = st.resource;
+    put_two(bytes, 0, st.processors);
+    put_two(bytes, 2, st.tasks);
+    put_two(bytes, 4, st.resources);
+    put_four(bytes, 6, st.clock);
+    put_servers(bytes, servers);
+    put_tasks(bytes, tasks);
+    put_resources(bytes, resources);
+    true
+}
