@@ -1,0 +1,17 @@
+-- `exports::tables::entry_in` meets its contract. Assumes nothing.
+use borrow.Author.Needs.{needs}
+use Rattle.trace.specs.Reading.{entryIn}
+use Rattle.exports.proofs.tables.entry_in.Statement.{statement}
+use Rattle.exports.proofs.tables.entry_in.Tie as tie
+
+pub entry-in-spec : {M : Type 1} → statement M
+unfolding entryIn
+entry-in-spec =
+    tie.close
+    (tie.spec
+    (λ c κs. search needs)
+    (λ c. search needs)
+    (λ c κs. search needs)
+    (λ c. search needs)
+    (λ c κs. search needs)
+    (λ c. rw (c .before .before .four-bytes .ensures, c .before .four-bytes2 .ensures, c .two-bytes .ensures)))

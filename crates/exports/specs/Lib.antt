@@ -1,0 +1,3 @@
+pub mod Packed
+pub mod Tables
+pub mod Exported
