@@ -11,7 +11,6 @@ use Rattle.model.specs.declared.State.{State}
 use Rattle.model.specs.Sound.{sound}
 use Rattle.model.specs.Said.{ok, refused}
 use Rattle.settle.specs.Doing.{doing}
-use Rattle.image.specs.declared.ImageAnswer.{ImageAnswer}
 use Rattle.image.specs.declared.ImageAnswer.the-variants.{Held, Refused}
 use Rattle.image.specs.declared.Imaged.{Imaged}
 use Rattle.image.specs.Layout.{imageSize}

@@ -1,3 +1,5 @@
 mod Held
+pub mod Keeps
 mod Lines
+pub mod Unpacked
 mod Ways

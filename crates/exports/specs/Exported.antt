@@ -1,5 +1,5 @@
 -- What each exported function answers, and what it leaves of the bytes lent to it. A refusal leaves them as they were. Assumes nothing.
-use mathlib.Core.Bool.{Bool, true, false, not, _&&_}
+use mathlib.Core.Bool.{Bool, true, false, _&&_}
 use mathlib.Core.List.{List, _++_}
 use mathlib.Core.Option.{Option, none, some}
 use Prim.Native.Nat.{ℕ, _/_, _%_, _^_}
@@ -12,7 +12,6 @@ use Rattle.model.specs.declared.Answer.{Answer}
 use Rattle.model.specs.declared.Answer.the-variants.{Ok, Executes, Spins, Granted, Waits, Passed, Freed, Refused}
 use Rattle.model.specs.declared.FreshAnswer.{FreshAnswer}
 use Rattle.model.specs.declared.FreshAnswer.the-variants as fresh
-use Rattle.model.specs.declared.FreshOutcome.{FreshOutcome}
 use Rattle.model.specs.declared.Outcome.{Outcome}
 use Rattle.model.specs.declared.State.{State}
 use Rattle.model.specs.Sound.{sound}

@@ -7,8 +7,8 @@ ghost use Rattle.exports.specs.Tables.{isSections, parentOf, sectionIn, 
 use bound::Parent;
 use bound::Section;
 use bound::Sections;
-use image::numbers::four_bytes;
-use image::numbers::two_bytes;
+use trace::numbers::four_bytes;
+use trace::numbers::two_bytes;
 
 pub fn is_sections(bytes: &[u8]) -> bool
     ensures { λ r. ⌜ r ≡ isSections (now (bytes .entry)) ⌝ }

@@ -1,14 +1,11 @@
 // Tables that a caller hands over in bytes. Assumes nothing but what each function says.
 ghost use mathlib.Core.Path.{_≡_};
 ghost use mathlib.Core.Bool.{true};
-ghost use Prim.Native.Nat.{_+_, _≤_};
-ghost use lib.ListN.{length};
-ghost use Rattle.trace.specs.Reading.{entryIn};
 ghost use Rattle.exports.specs.Tables.{isTable, lineIn, tableIn};
-use image::numbers::four_bytes;
-use image::numbers::two_bytes;
 use model::Entry;
 use model::Table;
+use trace::lines::entry_in;
+use trace::numbers::two_bytes;
 
 pub fn is_table(bytes: &[u8]) -> bool
     ensures { λ r. ⌜ r ≡ isTable (now (bytes .entry)) ⌝ }
@@ -18,21 +15,6 @@ pub fn is_table(bytes: &[u8]) -> bool
     }
     let tasks = two_bytes(bytes, 2) as usize;
     bytes.len() == 6 + 10 * tasks
-}
-
-// A task's line.
-fn entry_in(bytes: &[u8], at: usize) -> Entry
-    requires { ⌜ at + 10 ≤ length (now bytes) ⌝ }
-    ensures { λ r. ⌜ r ≡ entryIn (now (bytes .entry)) at ⌝ }
-{
-    let quota = four_bytes(bytes, at);
-    let period = four_bytes(bytes, at + 4);
-    let declared = two_bytes(bytes, at + 8);
-    Entry {
-        quota,
-        period,
-        declared,
-    }
 }
 
 // The line of task t, or nothing past the tasks.

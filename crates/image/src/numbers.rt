@@ -1,32 +1,9 @@
-// Little-endian numbers in lent bytes, read and written. Each function is given a place at which the number lies whole in the slice.
+// Little-endian numbers written into lent bytes, as `trace::numbers` reads them. Each function is given a place at which the number lies whole in the slice.
 ghost use mathlib.Core.Path.{_≡_};
-ghost use Prim.Native.Nat.{_+_, _<_, _≤_};
+ghost use Prim.Native.Nat.{_+_, _≤_};
 ghost use lib.ListN.{length};
-ghost use Rattle.trace.specs.Reading.{twoBytes, fourBytes};
 ghost use Rattle.image.specs.Layout.{stored};
 ghost use Rattle.image.specs.Encoded.{one, two, four};
-
-fn wide(b: u8) -> u16
-    ensures { λ r. ⌜ (r ≡ b) × (r < 256) ⌝ }
-{
-    b as u16
-}
-
-pub fn two_bytes(bytes: &[u8], at: usize) -> u16
-    requires { ⌜ at + 2 ≤ length (now bytes) ⌝ }
-    ensures { λ r. ⌜ r ≡ twoBytes (now (bytes .entry)) at ⌝ }
-{
-    wide(bytes[at]) + 256 * wide(bytes[at + 1])
-}
-
-pub fn four_bytes(bytes: &[u8], at: usize) -> u32
-    requires { ⌜ at + 4 ≤ length (now bytes) ⌝ }
-    ensures { λ r. ⌜ r ≡ fourBytes (now (bytes .entry)) at ⌝ }
-{
-    let low = two_bytes(bytes, at);
-    let high = two_bytes(bytes, at + 2);
-    low as u32 + 65536 * (high as u32)
-}
 
 pub fn put_one(bytes: &mut [u8], at: usize, n: u8)
     requires { ⌜ at + 1 ≤ length (now bytes) ⌝ }

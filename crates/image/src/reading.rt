@@ -9,8 +9,6 @@ ghost use Rattle.image.specs.Decoded.{entriesIn, taskNoIn, serverIn, tas
 use crate::ImageAnswer;
 use crate::Imaged;
 use crate::blank::unusable_state;
-use crate::numbers::four_bytes;
-use crate::numbers::two_bytes;
 use crate::sizes::RESOURCE_SIZE;
 use crate::sizes::RESOURCES_PLACE;
 use crate::sizes::SERVER_SIZE;
@@ -27,6 +25,8 @@ use model::Server;
 use model::State;
 use model::Task;
 use model::TaskNo;
+use trace::numbers::four_bytes;
+use trace::numbers::two_bytes;
 
 fn server_in(bytes: &[u8], at: usize) -> Server
     requires { ⌜ at + 29 ≤ length (now bytes) ⌝ }

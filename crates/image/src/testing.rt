@@ -4,7 +4,6 @@ ghost use Prim.Native.Nat.{_+_, _<_, _≤_};
 ghost use lib.ListN.{length};
 ghost use Rattle.image.specs.Layout.{imageSize};
 ghost use Rattle.image.specs.Decoded.{taggedFits, serverFits, taskFits, resourceFits, entriesFit, isImage};
-use crate::numbers::two_bytes;
 use crate::sizes::IMAGE_SIZE;
 use crate::sizes::RESOURCE_SIZE;
 use crate::sizes::RESOURCES_PLACE;
@@ -13,6 +12,7 @@ use crate::sizes::SERVERS_PLACE;
 use crate::sizes::TASK_SIZE;
 use crate::sizes::TASKS_PLACE;
 use crate::tags::tag_fits;
+use trace::numbers::two_bytes;
 
 fn tagged_fits(last: u8, bytes: &[u8], at: usize) -> bool
     requires { ⌜ at + 3 ≤ length (now bytes) ⌝ }

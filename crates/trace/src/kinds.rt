@@ -2,11 +2,11 @@
 ghost use mathlib.Core.Path.{_≡_};
 ghost use Prim.Native.Nat.{_+_, _≤_};
 ghost use lib.ListN.{length};
-ghost use Rattle.trace.specs.Reading.{bodyLength, recordIn, entryIn};
+ghost use Rattle.trace.specs.Reading.{bodyLength, recordIn};
 use crate::Record;
+use crate::lines::entry_in;
 use crate::numbers::four_bytes;
 use crate::numbers::two_bytes;
-use model::Entry;
 use model::Event;
 use model::ServerNo;
 use model::TaskNo;
@@ -21,21 +21,6 @@ pub fn body_length(kind: u16) -> usize
         16 => 6,
         17 => 10,
         _ => 0,
-    }
-}
-
-// A task's line of the table.
-fn entry_in(file: &[u8], at: usize) -> Entry
-    requires { ⌜ at + 10 ≤ length (now file) ⌝ }
-    ensures { λ r. ⌜ r ≡ entryIn (now (file .entry)) at ⌝ }
-{
-    let quota = four_bytes(file, at);
-    let period = four_bytes(file, at + 4);
-    let declared = two_bytes(file, at + 8);
-    Entry {
-        quota,
-        period,
-        declared,
     }
 }
 

@@ -26,5 +26,6 @@ pub enum Read {
 }
 
 mod kinds;
-mod numbers;
+pub mod lines;
+pub mod numbers;
 mod reading;

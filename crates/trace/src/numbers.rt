@@ -1,4 +1,4 @@
-// Little-endian numbers of a trace. Each function is given a place at which the number lies whole in the slice.
+// Little-endian numbers of a trace, or of other bytes. Each function is given a place at which the number lies whole in the slice.
 ghost use mathlib.Core.Path.{_≡_};
 ghost use Prim.Native.Nat.{_+_, _<_, _≤_};
 ghost use lib.ListN.{length};

@@ -1,8 +1,8 @@
--- `exports::tables::entry_in` meets its contract. Assumes nothing.
+-- `trace::lines::entry_in` meets its contract. Assumes nothing.
 use borrow.Author.Needs.{needs}
 use Rattle.trace.specs.Reading.{entryIn}
-use Rattle.exports.proofs.tables.entry_in.Statement.{statement}
-use Rattle.exports.proofs.tables.entry_in.Tie as tie
+use Rattle.trace.proofs.lines.entry_in.Statement.{statement}
+use Rattle.trace.proofs.lines.entry_in.Tie as tie
 
 pub entry-in-spec : {M : Type 1} → statement M
 unfolding entryIn
