@@ -5,6 +5,7 @@
 //! - `step`: the eight events and rule H; `meter`: the rows a caller lends;
 //! - `trace` and `replay`: reading a trace, and its listing; `states`: each state as text;
 //! - `bound`: the interference bound; `section_text`: the text that program `bounds` reads;
+//! - `image` and `library`: a state in bytes, and the static library's functions on such bytes;
 //! - `generate`: seeded cases that reach deep states, and a count of what they reach.
 //!
 //! `cargo test` runs the tests; `generate report SEED ROUNDS` prints what the cases reach.
@@ -14,6 +15,8 @@
 
 pub mod bound;
 pub mod generate;
+pub mod image;
+pub mod library;
 pub mod meter;
 pub mod refusal;
 pub mod replay;

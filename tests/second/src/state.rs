@@ -273,13 +273,16 @@ impl State {
         (0..self.resource_count()).map(ResourceNumber)
     }
 
-    /// The owner of what the task waits for: the next link of its chain.
+    /// The owner of what the task waits for: the next link of its chain. An owner that is not in
+    /// use counts as none (DECISIONS 22).
     pub fn next_in_chain(&self, task: TaskNumber) -> Option<TaskNumber> {
         if !self.has_task(task) {
             return None;
         }
         match self[task].mode {
-            Mode::Waiting(resource) if self.has_resource(resource) => self[resource].owner,
+            Mode::Waiting(resource) if self.has_resource(resource) => {
+                self[resource].owner.filter(|&owner| self.has_task(owner))
+            }
             _ => None,
         }
     }

@@ -25,14 +25,9 @@
 //!
 //! Assumes nothing of its input. Whether a trace makes sense is for `replay` to tell.
 
-mod assemble;
-mod disassemble;
-mod records;
-#[cfg(test)]
-mod round_trips;
-
 use std::io::{self, Read, Write};
 use std::process::ExitCode;
+use trace::{assemble, disassemble};
 
 const HELP: &str = "\
 usage: trace asm [FILE]             text to trace bytes

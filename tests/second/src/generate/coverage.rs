@@ -64,7 +64,7 @@ const RULE_H: [&str; 6] = [
     "nobody left",
 ];
 
-const DEEP: [&str; 12] = [
+const DEEP: [&str; 14] = [
     "stack of all resources",
     "queue of all other tasks",
     "waits, end executes elsewhere",
@@ -76,6 +76,8 @@ const DEEP: [&str; 12] = [
     "passed, executor stays with the releaser",
     "passed, releaser stops",
     "several servers of one task reach 0 together",
+    "budget runs out inside a lock",
+    "budget runs out inside nested locks",
     "suspended holder with waiters",
 ];
 
@@ -143,9 +145,7 @@ impl Coverage {
             (Event::Unlock(task, _), Outcome::Passed(next)) => {
                 passed_names(before, after, task, next)
             }
-            (Event::Elapse(_), Outcome::Ok(_)) if reach_zero_together(before, after) => {
-                vec!["several servers of one task reach 0 together"]
-            }
+            (Event::Elapse(_), Outcome::Ok(1..)) => exhausted_names(before, after),
             (Event::Suspend(task), Outcome::Ok(2..)) if after[task].depth > 0 => {
                 vec!["suspended holder with waiters"]
             }
@@ -174,12 +174,16 @@ impl Coverage {
         wanted
     }
 
+    /// How often a thing was reached.
+    pub fn count(&self, name: &str) -> u64 {
+        self.counts.get(name).copied().unwrap_or_default()
+    }
+
     /// What is wanted and was never reached.
     pub fn missing(&self) -> Vec<String> {
-        let reached = |name: &String| self.counts.contains_key(name);
         Coverage::wanted()
             .into_iter()
-            .filter(|name| !reached(name))
+            .filter(|name| self.count(name) == 0)
             .collect()
     }
 
@@ -305,19 +309,33 @@ fn passed_names(
         ),
         (after[task].runs.is_none(), "passed, releaser stops"),
     ];
-    told.into_iter()
-        .filter_map(|(true_of_it, name)| true_of_it.then_some(name))
-        .collect()
+    names_of(&told)
 }
 
-/// Whether two servers that served one task ran out in this elapse.
-fn reach_zero_together(before: &State, after: &State) -> bool {
+/// All that is told of servers that ran out in this elapse.
+fn exhausted_names(before: &State, after: &State) -> Vec<&'static str> {
     let mut exhausted = [0; TASK_LIMIT];
+    let mut depth = 0;
     for server in after.server_numbers() {
         let ran = before[server].phase == Phase::Running;
         if ran && after[server].phase == Phase::Recharging {
-            exhausted[before.served_by(server).index()] += 1;
+            let task = before.served_by(server);
+            exhausted[task.index()] += 1;
+            if before[task].runs == Some(server) {
+                depth = depth.max(before[task].depth);
+            }
         }
     }
-    exhausted.iter().any(|&count| count > 1)
+    let together = exhausted.iter().any(|&count| count > 1);
+    let told = [
+        (together, "several servers of one task reach 0 together"),
+        (depth > 0, "budget runs out inside a lock"),
+        (depth > 1, "budget runs out inside nested locks"),
+    ];
+    names_of(&told)
+}
+
+fn names_of(told: &[(bool, &'static str)]) -> Vec<&'static str> {
+    let true_ones = told.iter().filter(|(true_of_it, _)| *true_of_it);
+    true_ones.map(|&(_, name)| name).collect()
 }

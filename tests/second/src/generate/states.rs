@@ -11,8 +11,6 @@ use crate::state::{
     TaskNumber, CLOCK_LIMIT, PROCESSOR_LIMIT, RESOURCE_LIMIT, TASK_LIMIT, TICK_LIMIT,
 };
 
-/// Numbers past any count, small enough for one byte.
-const LARGEST_STRAY_NUMBER: u16 = 255;
 /// Far more than it ever took to find a state that breaks one clause.
 const ATTEMPTS: u32 = 1_000_000;
 
@@ -20,13 +18,17 @@ const ATTEMPTS: u32 = 1_000_000;
 pub fn sound_state(random: &mut Random) -> State {
     let counts = any_counts(random);
     let pace = Pace::any(random);
-    let table = good_table(random, counts, pace, false);
+    let chained = random.one_in(4);
+    let table = good_table(random, counts, pace, chained);
     let (mut state, _) = fresh(&table);
     state.clock = match random.index(4) {
         0 => random.between(0, 30),
         1 => CLOCK_LIMIT - random.between(0, 30),
         _ => random.between(0, CLOCK_LIMIT),
     };
+    if chained {
+        make_one_chain(random, &mut state);
+    }
     hand_out_resources(random, &mut state);
     let waiting_once_in = u64::from(random.between(1, 4));
     make_tasks_wait(random, &mut state, waiting_once_in);
@@ -37,13 +39,32 @@ pub fn sound_state(random: &mut Random) -> State {
     state
 }
 
+/// One chain through any of the tasks, often all of them; each may lock what it likes.
+fn make_one_chain(random: &mut Random, state: &mut State) {
+    let mut tasks: Vec<TaskNumber> = state.task_numbers().collect();
+    let mut resources: Vec<ResourceNumber> = state.resource_numbers().collect();
+    random.shuffle(&mut tasks);
+    random.shuffle(&mut resources);
+    if random.one_in(2) {
+        resources.truncate(random.index(TASK_LIMIT));
+    }
+    for (pair, &resource) in tasks.windows(2).zip(&resources) {
+        let (waiter, owner) = (pair[0], pair[1]);
+        state[resource].owner = Some(owner);
+        state[owner].push(resource);
+        state[resource].join(waiter);
+        state[waiter].mode = Mode::Waiting(resource);
+    }
+}
+
+/// Gives those that are left to tasks that may lock them.
 fn hand_out_resources(random: &mut Random, state: &mut State) {
     for resource in state.resource_numbers() {
         let may_own: Vec<TaskNumber> = state
             .task_numbers()
             .filter(|&task| state[task].declares(resource))
             .collect();
-        if random.one_in(4) {
+        if random.one_in(4) || state[resource].owner.is_some() {
             continue;
         }
         if let Some(owner) = random.pick(&may_own) {
@@ -57,9 +78,12 @@ fn hand_out_resources(random: &mut Random, state: &mut State) {
     }
 }
 
-/// Lets tasks wait in any order; the modes of the others are chosen too.
+/// Lets tasks that don't wait yet do so in any order; the modes of the others are chosen too.
 fn make_tasks_wait(random: &mut Random, state: &mut State, once_in: u64) {
-    let mut tasks: Vec<TaskNumber> = state.task_numbers().collect();
+    let mut tasks: Vec<TaskNumber> = state
+        .task_numbers()
+        .filter(|&task| state[task].mode == Mode::Suspended)
+        .collect();
     random.shuffle(&mut tasks);
     for task in tasks {
         state[task].mode = if random.one_in(3) {
@@ -146,8 +170,13 @@ fn choose_accounts(random: &mut Random, state: &mut State) {
     }
 }
 
+/// Any number, often one near the limits.
 fn stray_number(random: &mut Random) -> u16 {
-    random.number(0, LARGEST_STRAY_NUMBER)
+    if random.one_in(2) {
+        random.number(0, TASK_LIMIT as u16 + 1)
+    } else {
+        random.number(0, u16::MAX)
+    }
 }
 
 fn stray_task(random: &mut Random) -> Task {
@@ -248,22 +277,22 @@ pub fn broken_state(random: &mut Random, clause: Clause) -> State {
 /// Changes what the clause speaks of; other clauses may break too, and then it is tried again.
 fn break_clause(random: &mut Random, state: &mut State, clause: Clause) {
     let server = ServerNumber(random.number(0, state.tasks - 1));
-    let past_clock = state.clock.saturating_add(random.between(1, 9));
+    let past_clock = ticks_above(random, state.clock);
     match clause {
         Clause::ProcessorsInRange => {
             state.processors = number_past(random, PROCESSOR_LIMIT);
         }
         Clause::TasksInRange => break_task_count(random, state),
         Clause::ResourcesInRange => {
-            state.resources = random.number(RESOURCE_LIMIT as u16 + 1, LARGEST_STRAY_NUMBER);
+            state.resources = number_above(random, RESOURCE_LIMIT as u16);
         }
-        Clause::ClockInRange => state.clock = CLOCK_LIMIT + random.between(1, 9),
+        Clause::ClockInRange => state.clock = ticks_above(random, CLOCK_LIMIT),
         Clause::ReservationsInRange => break_reservation(random, state, server),
         Clause::DeadlinesWithinPeriod => {
-            state[server].deadline = past_clock + state[server].period;
+            state[server].deadline = ticks_above(random, state.clock + state[server].period);
         }
         Clause::BudgetsWithinQuota => {
-            state[server].budget = state[server].quota + random.between(1, 9);
+            state[server].budget = ticks_above(random, state[server].quota);
         }
         Clause::EmptyExactlyWhenRecharging => match state[server].phase {
             Phase::Recharging => state[server].budget = random.between(1, state[server].quota),
@@ -275,16 +304,34 @@ fn break_clause(random: &mut Random, state: &mut State, clause: Clause) {
             state[server].phase = phases[random.index(phases.len())];
         }
         Clause::AccountsWithinClock => state[server.own_task()].executed = past_clock,
-        Clause::ServerTotalsWithinClock => state[server].own = state.clock,
+        Clause::ServerTotalsWithinClock => break_total(random, state, server),
         _ => break_task_clause(random, state, clause),
     }
 }
 
+/// A number above the limit, often just above it.
+fn number_above(random: &mut Random, limit: u16) -> u16 {
+    if random.one_in(2) {
+        limit + 1
+    } else {
+        random.number(limit + 1, u16::MAX)
+    }
+}
+
+fn ticks_above(random: &mut Random, limit: u32) -> u32 {
+    if random.one_in(2) {
+        limit + 1
+    } else {
+        random.between(limit + 1, u32::MAX)
+    }
+}
+
+/// 0, or a number above the limit.
 fn number_past(random: &mut Random, limit: usize) -> u16 {
     if random.one_in(2) {
         0
     } else {
-        random.number(limit as u16 + 1, LARGEST_STRAY_NUMBER)
+        number_above(random, limit as u16)
     }
 }
 
@@ -301,12 +348,23 @@ fn break_task_count(random: &mut Random, state: &mut State) {
 fn break_reservation(random: &mut Random, state: &mut State, server: ServerNumber) {
     let server = &mut state[server];
     match random.index(3) {
-        0 => server.period = TICK_LIMIT + random.between(1, 9),
+        0 => server.period = ticks_above(random, TICK_LIMIT),
         1 => server.period = server.quota - 1,
         _ => {
             server.quota = 0;
             server.budget = 0;
         }
+    }
+}
+
+/// Each account within the clock; all three together may pass 32 bits.
+fn break_total(random: &mut Random, state: &mut State, server: ServerNumber) {
+    let clock = state.clock;
+    let server = &mut state[server];
+    let accounts = [&mut server.own, &mut server.lent, &mut server.spin];
+    let changed = random.between(1, accounts.len() as u32) as usize;
+    for account in accounts.into_iter().take(changed) {
+        *account = clock;
     }
 }
 
@@ -336,7 +394,7 @@ fn break_stack(random: &mut Random, state: &mut State, task: TaskNumber) {
     let resource = ResourceNumber(stray_number(random));
     match random.index(4) {
         0 => state[task].held[0] = resource,
-        1 => state[task].depth = random.number(0, LARGEST_STRAY_NUMBER),
+        1 => state[task].depth = stray_number(random),
         2 if usize::from(state[task].depth) < RESOURCE_LIMIT => {
             let again = state[task].held[0];
             state[task].push(again);
@@ -353,7 +411,7 @@ fn break_queue(random: &mut Random, state: &mut State) {
     let resource = &mut state.resource[random.index(RESOURCE_LIMIT)];
     match random.index(4) {
         0 => resource.queue[0] = stray,
-        1 => resource.waiting = random.number(0, LARGEST_STRAY_NUMBER),
+        1 => resource.waiting = stray_number(random),
         2 if usize::from(resource.waiting) < TASK_LIMIT => resource.join(stray),
         _ => {
             let task = &mut state.task[random.index(TASK_LIMIT)];
