@@ -187,12 +187,17 @@ impl Coverage {
             .collect()
     }
 
-    /// One line for each thing reached, with its count, then what is missing.
+    /// One line for each thing reached, with its count.
+    pub fn counts(&self) -> String {
+        let lines = self.counts.iter();
+        lines
+            .map(|(name, count)| format!("{count:>10}  {name}\n"))
+            .collect()
+    }
+
+    /// What was reached, then what is missing.
     pub fn report(&self) -> String {
-        let mut report = String::new();
-        for (name, count) in &self.counts {
-            report.push_str(&format!("{count:>10}  {name}\n"));
-        }
+        let mut report = self.counts();
         for name in self.missing() {
             report.push_str(&format!("     never  {name}\n"));
         }

@@ -1,0 +1,90 @@
+//! The families of cases: what each compares, and how many it makes. A case is fixed by the seed,
+//! its family and its number.
+//!
+//! Assumes nothing.
+
+mod states;
+mod tables;
+mod traces;
+
+use crate::case::{Case, Sides};
+use crate::shrink::shrunk;
+use crate::text::{case_text, difference_text};
+use second::generate::coverage::Coverage;
+use second::generate::random::Random;
+
+/// Makes the comparisons of one case and notes what they reach.
+type Maker = fn(&mut Random, u64, &mut Coverage) -> Vec<Case>;
+
+pub struct Family {
+    pub name: &'static str,
+    /// How many cases the gate compares.
+    pub size: u64,
+    make: Maker,
+}
+
+const fn family(name: &'static str, size: u64, make: Maker) -> Family {
+    Family { name, size, make }
+}
+
+/// The four families of states are 20,000 together.
+pub const FAMILIES: [Family; 9] = [
+    family("made-up sound states", 10_000, states::made_up),
+    family("perturbed sound states", 2_500, states::perturbed),
+    family("states with one clause broken", 4_200, states::broken),
+    family("states with fields changed", 3_300, states::changed),
+    family("tables for fresh", 3_000, tables::fresh_tables),
+    family("section tables", 5_000, tables::section_tables),
+    family("traces", 20_000, traces::good),
+    family("damaged traces", 5_000, traces::damaged),
+    family("runs step by step", 1_000, traces::step_by_step),
+];
+
+/// Where the sides differed.
+pub struct Difference {
+    pub number: u64,
+    /// The case made small, in words.
+    pub text: String,
+}
+
+pub struct Outcome {
+    pub comparisons: u64,
+    pub difference: Option<Difference>,
+}
+
+impl Family {
+    /// Compares the family's cases up to the first difference.
+    pub fn compare(&self, sides: &Sides, seed: u64, coverage: &mut Coverage) -> Outcome {
+        let mut comparisons = 0;
+        for number in 0..self.size {
+            for case in self.case(seed, number, coverage) {
+                comparisons += 1;
+                if sides.differ(&case) {
+                    let text = told(sides, &shrunk(sides, &case));
+                    let difference = Some(Difference { number, text });
+                    return Outcome {
+                        comparisons,
+                        difference,
+                    };
+                }
+            }
+        }
+        Outcome {
+            comparisons,
+            difference: None,
+        }
+    }
+
+    fn case(&self, seed: u64, number: u64, coverage: &mut Coverage) -> Vec<Case> {
+        // The name tells the families' cases apart.
+        let name = self.name.bytes().map(u64::from);
+        let own = name.fold(seed, |mixed, byte| Random::new(mixed ^ byte).draw());
+        let mut random = Random::new(own.wrapping_add(number));
+        (self.make)(&mut random, number, coverage)
+    }
+}
+
+fn told(sides: &Sides, case: &Case) -> String {
+    let difference = difference_text(case, &sides.seen(case));
+    format!("{}{difference}", case_text(case))
+}

@@ -1,0 +1,266 @@
+//! A case in words, and how the two sides differ on it. Traces and tables are written as program
+//! `trace` reads them, sections as program `bounds` of the second program does.
+//!
+//! Assumes nothing.
+
+use crate::case::{Case, Seen, Told};
+use crate::layout::fields;
+use crate::sides::Call;
+use second::generate::runs::framed;
+use second::image::{decode, STATE_BYTES};
+use second::state::{Mode, Resource, Server, State, Task};
+use std::fmt::Write;
+use trace::disassemble::disassemble;
+use vesztamor::Answer;
+
+const NO_PARENT: u8 = 255;
+
+pub fn case_text(case: &Case) -> String {
+    match case {
+        Case::Replay { trace, missing: 0 } => disassemble(trace, true),
+        Case::Replay { trace, missing } => {
+            let text = disassemble(trace, true);
+            format!("{text}# and {missing} bytes of room too few\n")
+        }
+        Case::Fresh { table, room } => table_text(table, *room),
+        Case::Sound { state } => format!("{}is it sound?\n", state_text(state)),
+        Case::Step { state, call } => format!("{}{}\n", state_text(state), call_text(*call)),
+        Case::Executing { state, server } => {
+            format!("{}what does server {server} do?\n", state_text(state))
+        }
+        Case::Bound {
+            sections,
+            task,
+            allowance,
+        } => format!("{}bound {task} {allowance}\n", sections_text(sections)),
+    }
+}
+
+/// What each side answered, and what it left otherwise than the other.
+pub fn difference_text(case: &Case, seen: &[Seen; 2]) -> String {
+    let [proved, second] = seen;
+    let mut text = format!(
+        "proved: {}\nsecond: {}\n",
+        told_text(&proved.told),
+        told_text(&second.told)
+    );
+    match case {
+        Case::Replay { .. } => text.push_str(&first_line_apart(seen)),
+        Case::Fresh { .. } | Case::Step { .. } => text.push_str(&fields_apart(seen)),
+        Case::Sound { .. } | Case::Executing { .. } | Case::Bound { .. } => (),
+    }
+    text
+}
+
+fn told_text(told: &Told) -> String {
+    match told {
+        Told::Answer(answer) => answer_text(*answer),
+        Told::Bound(Ok((bound, weighings))) => format!("bound {bound} weighings {weighings}"),
+        Told::Bound(Err(number)) => format!("refused {number}"),
+        Told::Length(Some(length)) => format!("a listing of {length} bytes"),
+        Told::Length(None) => "no listing".to_string(),
+        Told::Panicked => "a panic".to_string(),
+    }
+}
+
+fn answer_text(answer: Answer) -> String {
+    let (word, number) = match answer {
+        Answer::Ok(number) => ("ok", number),
+        Answer::Executes(task) => ("executes", task),
+        Answer::Spins(task) => ("spins", task),
+        Answer::Granted(resource) => ("granted", resource),
+        Answer::Waits(task) => ("waits", task),
+        Answer::Passed(task) => ("passed", task),
+        Answer::Freed(resource) => ("freed", resource),
+        Answer::Refused(number) => ("refused", number),
+    };
+    format!("{word} {number}")
+}
+
+fn listing(seen: &Seen) -> String {
+    let length = match seen.told {
+        Told::Length(Some(length)) => length.min(seen.left.len()),
+        _ => 0,
+    };
+    String::from_utf8_lossy(&seen.left[..length]).into_owned()
+}
+
+fn first_line_apart(seen: &[Seen; 2]) -> String {
+    let [proved, second] = seen.each_ref().map(listing);
+    let lines = proved.lines().count().max(second.lines().count());
+    for number in 0..lines {
+        let [one, other] = [&proved, &second].map(|listing| listing.lines().nth(number));
+        if one != other {
+            let line = |line: Option<&str>| line.unwrap_or("(no such line)").to_string();
+            let number = number + 1;
+            return format!(
+                "line {number}, proved: {}\nline {number}, second: {}\n",
+                line(one),
+                line(other)
+            );
+        }
+    }
+    "the listings agree; the bytes after them don't\n".to_string()
+}
+
+fn fields_apart(seen: &[Seen; 2]) -> String {
+    let [proved, second] = seen.each_ref().map(|seen| &seen.left);
+    let mut text = String::new();
+    if proved.len() != STATE_BYTES || second.len() != STATE_BYTES {
+        return text;
+    }
+    for field in fields() {
+        let (one, other) = (field.value(proved), field.value(second));
+        if one != other {
+            let _ = writeln!(text, "{}: proved {one}, second {other}", field.name);
+        }
+    }
+    text
+}
+
+/// An event as in a trace's text.
+fn call_text(call: Call) -> String {
+    let Call {
+        kind,
+        number,
+        resource,
+        ticks,
+    } = call;
+    let body: Vec<u8> = match kind {
+        5 => ticks.to_le_bytes().to_vec(),
+        7 | 8 => [number.to_le_bytes(), resource.to_le_bytes()].concat(),
+        _ => number.to_le_bytes().to_vec(),
+    };
+    disassemble(&framed(kind, &body), false)
+        .trim_end()
+        .to_string()
+}
+
+fn table_text(table: &[u8], room: usize) -> String {
+    let mut text = String::new();
+    let (counts, rows) = table.split_at(table.len().min(6));
+    text.push_str(&disassemble(&framed(16, counts), false));
+    for row in rows.chunks(10) {
+        text.push_str(&disassemble(&framed(17, row), false));
+    }
+    if room != STATE_BYTES {
+        let _ = writeln!(text, "# into {room} bytes");
+    }
+    text
+}
+
+fn sections_text(bytes: &[u8]) -> String {
+    let (counts, rows) = bytes.split_at(bytes.len().min(4));
+    let two = |bytes: &[u8], at: usize| u16::from_le_bytes([bytes[at], bytes[at + 1]]);
+    let mut text = match counts.len() {
+        4 => format!("tasks {}\n", two(counts, 0)),
+        _ => String::new(),
+    };
+    for row in rows.chunks(9) {
+        if row.len() < 9 || counts.len() < 4 {
+            let _ = writeln!(text, "# and bytes {row:02x?}");
+            continue;
+        }
+        let length = u32::from_le_bytes([row[4], row[5], row[6], row[7]]);
+        let parent = match row[8] {
+            NO_PARENT => "-".to_string(),
+            parent => parent.to_string(),
+        };
+        let (task, resource) = (two(row, 0), two(row, 2));
+        let _ = writeln!(text, "section {task} {resource} {length} {parent}");
+    }
+    text
+}
+
+/// The entries in use, and those past the counts that aren't as a fresh state has them.
+fn state_text(bytes: &[u8]) -> String {
+    let Some(state) = decode(bytes) else {
+        return no_state_text(bytes);
+    };
+    let State {
+        processors,
+        tasks,
+        resources,
+        clock,
+        ..
+    } = state;
+    let mut text =
+        format!("processors {processors}, tasks {tasks}, resources {resources}, clock {clock}\n");
+    for (number, server) in state.server.iter().enumerate() {
+        if number < usize::from(tasks) || *server != Server::default() {
+            let _ = writeln!(text, "server {number}: {}", server_text(server));
+        }
+    }
+    for (number, task) in state.task.iter().enumerate() {
+        if number < usize::from(tasks) || *task != Task::default() {
+            let _ = writeln!(text, "task {number}: {}", task_text(task));
+        }
+    }
+    for (number, resource) in state.resource.iter().enumerate() {
+        if number < usize::from(resources) || *resource != Resource::default() {
+            let _ = writeln!(text, "resource {number}: {}", resource_text(resource));
+        }
+    }
+    text
+}
+
+fn no_state_text(bytes: &[u8]) -> String {
+    if bytes.len() != STATE_BYTES {
+        return format!("{} bytes\n", bytes.len());
+    }
+    let mut text = "no state; its fields but those that are 0:\n".to_string();
+    for field in fields().iter().filter(|field| field.value(bytes) != 0) {
+        let _ = writeln!(text, "{} {}", field.name, field.value(bytes));
+    }
+    text
+}
+
+fn server_text(server: &Server) -> String {
+    format!(
+        "{:?}, budget {}, deadline {}, Q {}, P {}, own {}, lent {}, spin {}",
+        server.phase,
+        server.budget,
+        server.deadline,
+        server.quota,
+        server.period,
+        server.own,
+        server.lent,
+        server.spin
+    )
+}
+
+fn task_text(task: &Task) -> String {
+    let mode = match task.mode {
+        Mode::Suspended => "suspended".to_string(),
+        Mode::Ready => "ready".to_string(),
+        Mode::Waiting(resource) => format!("waits for {}", resource.0),
+    };
+    let place = match task.runs {
+        None => "executes nowhere".to_string(),
+        Some(server) => format!("executes in {}", server.0),
+    };
+    let held: Vec<u16> = task.held.iter().map(|resource| resource.0).collect();
+    format!(
+        "{mode}, {place}, declared {:#06x}, executed {}, holds {} of {}",
+        task.declared,
+        task.executed,
+        task.depth,
+        places_text(&held)
+    )
+}
+
+fn resource_text(resource: &Resource) -> String {
+    let owner = match resource.owner {
+        None => "unowned".to_string(),
+        Some(task) => format!("owner {}", task.0),
+    };
+    let queue: Vec<u16> = resource.queue.iter().map(|task| task.0).collect();
+    let waiting = resource.waiting;
+    format!("{owner}, waiting {waiting} of {}", places_text(&queue))
+}
+
+/// The places up to the last that isn't 0.
+fn places_text(places: &[u16]) -> String {
+    let used = places.iter().rposition(|&place| place != 0);
+    format!("{:?}", &places[..used.map_or(0, |last| last + 1)])
+}

@@ -1,0 +1,63 @@
+//! What the cases have to reach, and how often: each answer, refusal, stop, clause of soundness,
+//! branch of rule H and kind of deep state, and each kind of damage.
+//!
+//! Assumes that the names are those under which the families note what they reach.
+
+use second::generate::coverage::Coverage;
+use second::generate::damage::Damage;
+
+/// States that break one clause alone, for each clause.
+const PER_CLAUSE: u64 = 100;
+
+/// What only the cross-check reaches, as it speaks of bytes.
+const OF_BYTES: [&str; 14] = [
+    "fresh ok",
+    "fresh refused 0",
+    "fresh refused 19 for its length",
+    "bound refused 40 for its length",
+    "replay refused 0",
+    "given state: made up",
+    "given state: perturbed",
+    "given state: changed fields, sound",
+    "given state: changed fields, not sound",
+    "given state: no state's bytes",
+    "step of an unknown kind",
+    "executing executes",
+    "executing spins",
+    "executing not running",
+];
+
+/// The library has no meter rows.
+fn is_exported(name: &str) -> bool {
+    !name.starts_with("meter ")
+}
+
+/// Each thing wanted, with how often.
+fn wanted() -> Vec<(String, u64)> {
+    let mut names: Vec<String> = Coverage::wanted();
+    names.retain(|name| is_exported(name));
+    names.extend(OF_BYTES.map(String::from));
+    names.extend(Damage::ALL.map(damage_name));
+    let times = |name: &str| match name.starts_with("broken alone: ") {
+        true => PER_CLAUSE,
+        false => 1,
+    };
+    let with_times = names.into_iter().map(|name| {
+        let times = times(&name);
+        (name, times)
+    });
+    with_times.collect()
+}
+
+pub fn damage_name(damage: Damage) -> String {
+    format!("damage: {damage:?}")
+}
+
+/// A line for each thing that was not reached often enough.
+pub fn lacking(coverage: &Coverage) -> Vec<String> {
+    let lacks = wanted().into_iter().filter_map(|(name, times)| {
+        let reached = coverage.count(&name);
+        (reached < times).then(|| format!("{name}: reached {reached} times, wanted {times}"))
+    });
+    lacks.collect()
+}
