@@ -27,12 +27,12 @@ const fn family(name: &'static str, size: u64, make: Maker) -> Family {
     Family { name, size, make }
 }
 
-/// The four families of states are 20,000 together.
+/// The four families of states are more than 20,000 together.
 pub const FAMILIES: [Family; 9] = [
     family("made-up sound states", 10_000, states::made_up),
     family("perturbed sound states", 2_500, states::perturbed),
     family("states with one clause broken", 4_200, states::broken),
-    family("states with fields changed", 3_300, states::changed),
+    family("states with fields changed", 6_000, states::changed),
     family("tables for fresh", 3_000, tables::fresh_tables),
     family("section tables", 5_000, tables::section_tables),
     family("traces", 20_000, traces::good),

@@ -4,7 +4,8 @@
 //! - `damage`: `damaged_trace` and `trace_with`, traces that are faulty in every way;
 //! - `long`: `longest`, `too_long` and `past_the_clock`, traces that are too long to store;
 //! - `sections`: `good_question`, `tight_questions` and `bad_question` for the bound;
-//! - `states`: `sound_state`, `perturbed_state` and `broken_state`, which no events need reach;
+//! - `states`: `sound_state`, `perturbed_state`, `broken_state` and `tangled_state`, which no events
+//!   need reach;
 //! - `tables`: `good_table` and `bad_table` for `fresh`;
 //! - `events` and `scenes`: how a run picks its events; `random`: the generator under all of them;
 //! - `coverage` and `survey`: what is to be reached, and how often it is.

@@ -11,7 +11,7 @@ use crate::sides::Call;
 use second::generate::coverage::Coverage;
 use second::generate::events::{next_event, possible_events, Kind, Manner};
 use second::generate::random::Random;
-use second::generate::states::{broken_state, perturbed_state, sound_state};
+use second::generate::states::{broken_state, perturbed_state, sound_state, tangled_state};
 use second::image::{decode, encode};
 use second::state::{fresh, Clause, Execution, ServerNumber, State};
 use second::step::{step, step_sound, Event};
@@ -48,9 +48,14 @@ pub fn broken(random: &mut Random, number: u64, coverage: &mut Coverage) -> Vec<
     asked_of_any(random, coverage, encode(&state))
 }
 
-pub fn changed(random: &mut Random, _: u64, coverage: &mut Coverage) -> Vec<Case> {
-    let mut bytes = encode(&sound_state(random));
-    for _ in 0..random.between(1, 3) {
+/// Waits and owners tangled, or any fields changed, or both.
+pub fn changed(random: &mut Random, number: u64, coverage: &mut Coverage) -> Vec<Case> {
+    let (state, fewest) = match number.is_multiple_of(2) {
+        true => (tangled_state(random), 0),
+        false => (sound_state(random), 1),
+    };
+    let mut bytes = encode(&state);
+    for _ in 0..random.between(fewest, 3) {
         let field = &fields()[random.index(fields().len())];
         let value = changed_value(random, field.value(&bytes));
         field.set(&mut bytes, value);

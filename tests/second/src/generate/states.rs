@@ -19,14 +19,18 @@ pub fn sound_state(random: &mut Random) -> State {
     let counts = any_counts(random);
     let pace = Pace::any(random);
     let chained = random.one_in(4);
-    let table = good_table(random, counts, pace, chained);
+    let hoarded = random.one_in(12);
+    let table = good_table(random, counts, pace, chained || hoarded);
     let (mut state, _) = fresh(&table);
     state.clock = match random.index(4) {
         0 => random.between(0, 30),
         1 => CLOCK_LIMIT - random.between(0, 30),
         _ => random.between(0, CLOCK_LIMIT),
     };
-    if chained {
+    if hoarded {
+        let owner = TaskNumber(random.number(0, counts.tasks - 1));
+        give_all(&mut state, owner);
+    } else if chained {
         make_one_chain(random, &mut state);
     }
     hand_out_resources(random, &mut state);
@@ -37,6 +41,13 @@ pub fn sound_state(random: &mut Random) -> State {
     choose_accounts(random, &mut state);
     fill_unread_places(random, &mut state);
     state
+}
+
+fn give_all(state: &mut State, owner: TaskNumber) {
+    for resource in state.resource_numbers() {
+        state[resource].owner = Some(owner);
+        state[owner].push(resource);
+    }
 }
 
 /// One chain through any of the tasks, often all of them; each may lock what it likes.
@@ -260,6 +271,22 @@ fn perturb(random: &mut Random, state: &mut State) {
         6 => state.processors = random.number(1, PROCESSOR_LIMIT as u16),
         _ => choose_accounts(random, state),
     }
+}
+
+/// A state in which a task waits for anything and a resource is anyone's, whatever that breaks:
+/// chains may close or leave the counts while servers on them run.
+pub fn tangled_state(random: &mut Random) -> State {
+    let mut state = sound_state(random);
+    for _ in 0..random.between(1, 3) {
+        let resource = ResourceNumber(random.number(0, RESOURCE_LIMIT as u16 - 1));
+        let task = TaskNumber(random.number(0, state.tasks - 1));
+        match random.index(3) {
+            0 => state[resource].owner = Some(TaskNumber(stray_number(random))),
+            1 => state[resource].owner = Some(task),
+            _ => state[task].mode = Mode::Waiting(resource),
+        }
+    }
+    state
 }
 
 /// A state that breaks this clause and no other.

@@ -61,7 +61,11 @@ pub fn good_table(random: &mut Random, counts: Counts, pace: Pace, open: bool) -
             _ => random.between(1, largest),
         };
         let longest = row.quota.saturating_mul(4).min(TICK_LIMIT);
-        row.period = random.between(row.quota, longest);
+        row.period = match random.index(16) {
+            0 => row.quota,
+            1 if pace == Pace::Wide => TICK_LIMIT,
+            _ => random.between(row.quota, longest),
+        };
         row.declared = every_resource;
         if !open {
             row.declared &= random.draw() as u16 | random.draw() as u16;
