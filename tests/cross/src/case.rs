@@ -4,7 +4,9 @@
 
 use crate::sides::{Call, Layer};
 use second::library::text_bytes;
+use std::cell::Cell;
 use std::panic::{self, AssertUnwindSafe};
+use std::sync::Once;
 use vesztamor::Answer;
 
 /// What stands in lent memory before a call, so that bytes which a side leaves alone are seen.
@@ -102,11 +104,24 @@ impl Case {
     }
 }
 
+thread_local! {
+    /// Whether a panic on this thread is awaited, and is told as an answer.
+    static AWAITED: Cell<bool> = const { Cell::new(false) };
+}
+
 /// The result, or none if it panicked; a panic here is told as a difference, not by its message.
 fn quietly<T>(run: impl FnOnce() -> T) -> Option<T> {
-    let usual = panic::take_hook();
-    panic::set_hook(Box::new(|_| ()));
+    static HOOK: Once = Once::new();
+    HOOK.call_once(|| {
+        let usual = panic::take_hook();
+        panic::set_hook(Box::new(move |told| {
+            if !AWAITED.get() {
+                usual(told);
+            }
+        }));
+    });
+    AWAITED.set(true);
     let result = panic::catch_unwind(AssertUnwindSafe(run));
-    panic::set_hook(usual);
+    AWAITED.set(false);
     result.ok()
 }

@@ -172,7 +172,7 @@ fn sections_text(bytes: &[u8]) -> String {
     text
 }
 
-/// The entries in use, and those past the counts that aren't as a fresh state has them.
+/// The counts, the clock and all entries that aren't empty, those past the counts too.
 fn state_text(bytes: &[u8]) -> String {
     let Some(state) = decode(bytes) else {
         return no_state_text(bytes);
@@ -187,17 +187,17 @@ fn state_text(bytes: &[u8]) -> String {
     let mut text =
         format!("processors {processors}, tasks {tasks}, resources {resources}, clock {clock}\n");
     for (number, server) in state.server.iter().enumerate() {
-        if number < usize::from(tasks) || *server != Server::default() {
+        if *server != Server::default() {
             let _ = writeln!(text, "server {number}: {}", server_text(server));
         }
     }
     for (number, task) in state.task.iter().enumerate() {
-        if number < usize::from(tasks) || *task != Task::default() {
+        if *task != Task::default() {
             let _ = writeln!(text, "task {number}: {}", task_text(task));
         }
     }
     for (number, resource) in state.resource.iter().enumerate() {
-        if number < usize::from(resources) || *resource != Resource::default() {
+        if *resource != Resource::default() {
             let _ = writeln!(text, "resource {number}: {}", resource_text(resource));
         }
     }

@@ -1,5 +1,6 @@
 //! The tests of this program: case R, the examples and slips of document 01, the readings that can
 //! be tested, the stored traces, the table of refusals, the programs, and long random runs.
+//! be tested, the programs, states in bytes, and long random runs.
 //!
 //! Assumes nothing. `bench.rs` holds the words that the other files are written in.
 
@@ -9,6 +10,7 @@ mod examples;
 mod figure_five;
 mod fuzz;
 mod generators;
+mod image;
 mod programs;
 mod readings_bound;
 mod readings_events;

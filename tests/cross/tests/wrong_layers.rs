@@ -1,0 +1,133 @@
+//! The comparison itself: layers that are wrong in one place are told apart, and the case that is
+//! shown is small.
+//!
+//! Assumes nothing. The wrong layers answer as the second program does but for that place.
+
+use cross::case::Sides;
+use cross::families::FAMILIES;
+use cross::sides::{Call, Layer, Second};
+use second::generate::coverage::Coverage;
+use vesztamor::Answer;
+
+/// Which function is wrong.
+#[derive(Clone, Copy, PartialEq, Eq)]
+enum Wrong {
+    /// A refused fresh writes.
+    Fresh,
+    Sound,
+    /// A granted lock writes one byte too many.
+    Step,
+    Executing,
+    Bound,
+    /// The number after `granted` is one too high.
+    Replay,
+    /// A byte after the text is written.
+    PastText,
+}
+
+struct WrongLayer(Wrong);
+
+impl Layer for WrongLayer {
+    fn fresh(&self, table: &[u8], state: &mut [u8]) -> Answer {
+        let answer = Second.fresh(table, state);
+        if self.0 == Wrong::Fresh && answer == Answer::Refused(20) {
+            state[0] = 0;
+        }
+        answer
+    }
+
+    fn is_sound(&self, state: &[u8]) -> Answer {
+        match self.0 {
+            Wrong::Sound => Answer::Ok(0),
+            _ => Second.is_sound(state),
+        }
+    }
+
+    fn step(&self, state: &mut [u8], call: Call) -> Answer {
+        let answer = Second.step(state, call);
+        if let (Wrong::Step, Answer::Granted(_)) = (self.0, answer) {
+            state[1801] ^= 1;
+        }
+        answer
+    }
+
+    fn executing(&self, state: &[u8], server: u16) -> Answer {
+        match (self.0, Second.executing(state, server)) {
+            (Wrong::Executing, Answer::Spins(task)) => Answer::Executes(task),
+            (_, answer) => answer,
+        }
+    }
+
+    fn bound(&self, sections: &[u8], task: u16, allowance: u32) -> Result<(u64, u32), u32> {
+        let answer = Second.bound(sections, task, allowance);
+        match self.0 {
+            Wrong::Bound => answer.map(|(bound, weighings)| (bound, weighings.min(5))),
+            _ => answer,
+        }
+    }
+
+    fn replay(&self, trace: &[u8], out: &mut [u8]) -> Option<usize> {
+        let length = Second.replay(trace, out)?;
+        if self.0 == Wrong::Replay {
+            let text = String::from_utf8_lossy(&out[..length]).replace("granted 0", "granted 1");
+            out[..length].copy_from_slice(text.as_bytes());
+        }
+        if self.0 == Wrong::PastText {
+            out[length] = 0;
+        }
+        Some(length)
+    }
+}
+
+/// The text of the first difference in a family.
+fn told_apart(wrong: Wrong, family: &str) -> String {
+    let layer = WrongLayer(wrong);
+    let sides = Sides {
+        proved: &layer,
+        second: &Second,
+    };
+    let family = FAMILIES.iter().find(|one| one.name == family);
+    let family = family.expect("there is such a family");
+    let outcome = family.compare(&sides, 1, &mut Coverage::default());
+    outcome.difference.expect("it is told apart").text
+}
+
+#[test]
+fn every_function_is_compared() {
+    for (wrong, family, difference) in [
+        (Wrong::Fresh, "tables for fresh", "processors: proved"),
+        (
+            Wrong::Sound,
+            "states with one clause broken",
+            "proved: ok 0",
+        ),
+        (Wrong::Step, "made-up sound states", "resource 15 queue[15]"),
+        (Wrong::Executing, "made-up sound states", "second: spins"),
+        (Wrong::Bound, "section tables", "weighings 5"),
+        (Wrong::Replay, "traces", "proved: 3 granted 1"),
+        (Wrong::PastText, "damaged traces", "the bytes after them"),
+    ] {
+        let text = told_apart(wrong, family);
+        assert!(text.contains(difference), "{text}");
+    }
+}
+
+#[test]
+fn a_trace_is_shrunk_to_its_records() {
+    let text = told_apart(Wrong::Replay, "traces");
+    let words = text.lines().map(|line| line.split(' ').next());
+    let words: Vec<&str> = words.map(Option::unwrap_or_default).collect();
+    let records: Vec<&str> = words.into_iter().filter(|word| *word != "task").collect();
+    assert_eq!(
+        records[..4],
+        ["machine", "wake", "dispatch", "lock"],
+        "{text}"
+    );
+}
+
+#[test]
+fn a_state_is_shrunk_to_what_matters() {
+    let text = told_apart(Wrong::Executing, "made-up sound states");
+    let shown = text.lines().count();
+    assert!(shown <= 6, "{text}");
+}

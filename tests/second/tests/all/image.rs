@@ -1,0 +1,79 @@
+//! A state in bytes: the offsets of docs/STATE.md, both ways, and bytes that no state has.
+//!
+//! Assumes nothing.
+
+use second::generate::random::Random;
+use second::generate::states::{sound_state, tangled_state};
+use second::image::{decode, encode, STATE_BYTES};
+use second::state::{Mode, Phase, ResourceNumber, ServerNumber, State, TaskNumber};
+
+const TASKS_AT: usize = 474;
+const RESOURCES_AT: usize = 1_210;
+
+#[test]
+fn both_ways() {
+    for seed in 0..500 {
+        let mut random = Random::new(seed);
+        for state in [sound_state(&mut random), tangled_state(&mut random)] {
+            assert_eq!(decode(&encode(&state)), Some(state));
+        }
+    }
+}
+
+/// One field of each kind, where the page says that it stands.
+#[test]
+fn fields_stand_at_their_offsets() {
+    let mut state = State {
+        clock: 0x0403_0201,
+        ..State::default()
+    };
+    state.server[1].phase = Phase::Recharging;
+    state.server[1].spin = 7;
+    state.task[2].mode = Mode::Waiting(ResourceNumber(3));
+    state.task[2].runs = Some(ServerNumber(4));
+    state.task[2].held[15] = ResourceNumber(5);
+    state.resource[3].owner = Some(TaskNumber(6));
+    state.resource[3].queue[0] = TaskNumber(0x0809);
+    let bytes = encode(&state);
+    let task = TASKS_AT + 46 * 2;
+    let resource = RESOURCES_AT + 37 * 3;
+    let set: Vec<(usize, u8)> = (0..).zip(bytes).filter(|&(_, byte)| byte != 0).collect();
+    let expected = [
+        (6, 1),
+        (7, 2),
+        (8, 3),
+        (9, 4),
+        (10 + 29, 3),
+        (10 + 29 + 25, 7),
+        (task, 2),
+        (task + 1, 3),
+        (task + 3, 1),
+        (task + 4, 4),
+        (task + 14 + 30, 5),
+        (resource, 1),
+        (resource + 1, 6),
+        (resource + 5, 9),
+        (resource + 6, 8),
+    ];
+    assert_eq!(set, expected);
+}
+
+#[test]
+fn bytes_that_no_state_has() {
+    let empty = encode(&State::default());
+    assert_eq!(empty.len(), STATE_BYTES);
+    assert_eq!(decode(&empty[1..]), None);
+    for (at, byte) in [
+        (10, 4),
+        (TASKS_AT, 3),
+        (TASKS_AT + 1, 1),
+        (TASKS_AT + 3, 2),
+        (TASKS_AT + 4, 1),
+        (RESOURCES_AT, 2),
+        (RESOURCES_AT + 2, 1),
+    ] {
+        let mut bytes = empty.clone();
+        bytes[at] = byte;
+        assert_eq!(decode(&bytes), None, "byte {at}");
+    }
+}
