@@ -76,7 +76,11 @@ pub fn section_tables(random: &mut Random, number: u64, coverage: &mut Coverage)
     let mut cases = Vec::new();
     for question in questions {
         match question.answer() {
-            Ok(_) => coverage.note("bound ok".to_string()),
+            Ok(bound) => {
+                let digits = bound.weighings.checked_ilog10().map_or(0, |tens| tens + 1);
+                coverage.note(format!("bound with weighings of {digits} digits"));
+                coverage.note("bound ok".to_string());
+            }
             Err(refusal) => coverage.note_refusal("bound", refusal),
         }
         cases.push(bound_case(&question, section_bytes(&question.table)));

@@ -59,6 +59,9 @@ fn good_table(random: &mut Random) -> SectionTable {
     if random.one_in(6) {
         return tied_table(random);
     }
+    if random.one_in(30) {
+        return dense_table(random);
+    }
     let tasks = random.number(1, BOUND_TASK_LIMIT);
     let count = random.index(SECTION_LIMIT + 1);
     // Few resources make the tasks meet.
@@ -102,6 +105,31 @@ fn tied_table(random: &mut Random) -> SectionTable {
     SectionTable {
         tasks: BOUND_TASK_LIMIT,
         sections: nested_in_turn(&nests),
+    }
+}
+
+/// Each task with sections on the same two resources, mostly one inside the other: these have the
+/// largest trees.
+fn dense_table(random: &mut Random) -> SectionTable {
+    let mut sections: Vec<Section> = Vec::new();
+    for task in (0..BOUND_TASK_LIMIT).map(TaskNumber) {
+        let nested = !random.one_in(6);
+        let parent = nested.then_some(sections.len() as u16);
+        let outside = Section {
+            length: random.between(2, 9),
+            ..outermost_section(random, task, 0)
+        };
+        sections.push(outside);
+        sections.push(Section {
+            resource: ResourceNumber(1),
+            length: random.between(1, outside.length),
+            parent,
+            ..outside
+        });
+    }
+    SectionTable {
+        tasks: BOUND_TASK_LIMIT,
+        sections,
     }
 }
 

@@ -7,31 +7,50 @@
 use super::random::Random;
 use super::tables::{any_counts, good_table, Pace};
 use crate::state::{
-    fresh, Clause, Mode, Phase, Resource, ResourceNumber, Server, ServerNumber, State, Task,
-    TaskNumber, CLOCK_LIMIT, PROCESSOR_LIMIT, RESOURCE_LIMIT, TASK_LIMIT, TICK_LIMIT,
+    fresh, Clause, Counts, Mode, Phase, Resource, ResourceNumber, Server, ServerNumber, State,
+    Task, TaskNumber, CLOCK_LIMIT, PROCESSOR_LIMIT, RESOURCE_LIMIT, TASK_LIMIT, TICK_LIMIT,
 };
 
 /// Far more than it ever took to find a state that breaks one clause.
 const ATTEMPTS: u32 = 1_000_000;
 
+/// How resources are held and awaited in a state that is made up.
+#[derive(Clone, Copy, Debug, PartialEq, Eq)]
+enum Shape {
+    Scattered,
+    /// One chain through any of the tasks.
+    Chained,
+    /// One task holds all.
+    Hoarded,
+}
+
 /// A sound state, made up field by field.
 pub fn sound_state(random: &mut Random) -> State {
     let counts = any_counts(random);
+    let shape = match random.index(12) {
+        0 => Shape::Hoarded,
+        1..=3 => Shape::Chained,
+        _ => Shape::Scattered,
+    };
+    shaped_state(random, counts, shape)
+}
+
+fn shaped_state(random: &mut Random, counts: Counts, shape: Shape) -> State {
     let pace = Pace::any(random);
-    let chained = random.one_in(4);
-    let hoarded = random.one_in(12);
-    let table = good_table(random, counts, pace, chained || hoarded);
+    let table = good_table(random, counts, pace, shape != Shape::Scattered);
     let (mut state, _) = fresh(&table);
     state.clock = match random.index(4) {
         0 => random.between(0, 30),
         1 => CLOCK_LIMIT - random.between(0, 30),
         _ => random.between(0, CLOCK_LIMIT),
     };
-    if hoarded {
-        let owner = TaskNumber(random.number(0, counts.tasks - 1));
-        give_all(&mut state, owner);
-    } else if chained {
-        make_one_chain(random, &mut state);
+    match shape {
+        Shape::Scattered => (),
+        Shape::Chained => make_one_chain(random, &mut state),
+        Shape::Hoarded => {
+            let owner = TaskNumber(random.number(0, counts.tasks - 1));
+            give_all(&mut state, owner);
+        }
     }
     hand_out_resources(random, &mut state);
     let waiting_once_in = u64::from(random.between(1, 4));
@@ -50,7 +69,7 @@ fn give_all(state: &mut State, owner: TaskNumber) {
     }
 }
 
-/// One chain through any of the tasks, often all of them; each may lock what it likes.
+/// A chain, often through all tasks; each may lock what it likes.
 fn make_one_chain(random: &mut Random, state: &mut State) {
     let mut tasks: Vec<TaskNumber> = state.task_numbers().collect();
     let mut resources: Vec<ResourceNumber> = state.resource_numbers().collect();
@@ -419,18 +438,35 @@ fn break_task_clause(random: &mut Random, state: &mut State, clause: Clause) {
 
 fn break_stack(random: &mut Random, state: &mut State, task: TaskNumber) {
     let resource = ResourceNumber(stray_number(random));
-    match random.index(4) {
+    match random.index(5) {
         0 => state[task].held[0] = resource,
         1 => state[task].depth = stray_number(random),
         2 if usize::from(state[task].depth) < RESOURCE_LIMIT => {
             let again = state[task].held[0];
             state[task].push(again);
         }
+        3 => *state = overfull_stack(random),
         _ => {
             let owned = &mut state.resource[random.index(RESOURCE_LIMIT)];
             owned.owner = Some(TaskNumber(stray_number(random)));
         }
     }
+}
+
+/// One task holds all sixteen resources, and its stack is said to be longer still.
+fn overfull_stack(random: &mut Random) -> State {
+    let counts = Counts {
+        resources: RESOURCE_LIMIT as u16,
+        ..any_counts(random)
+    };
+    let mut state = shaped_state(random, counts, Shape::Hoarded);
+    let depth = number_above(random, RESOURCE_LIMIT as u16);
+    for task in state.task_numbers() {
+        if state[task].stack().len() == RESOURCE_LIMIT {
+            state[task].depth = depth;
+        }
+    }
+    state
 }
 
 fn break_queue(random: &mut Random, state: &mut State) {
