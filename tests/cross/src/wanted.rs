@@ -10,7 +10,7 @@ use second::generate::damage::Damage;
 const PER_CLAUSE: u64 = 100;
 
 /// What only the cross-check reaches, most of it as it speaks of bytes.
-const OWN: [&str; 15] = [
+const OWN: [&str; 19] = [
     "fresh ok",
     "fresh refused 0",
     "fresh refused 19 for its length",
@@ -23,9 +23,13 @@ const OWN: [&str; 15] = [
     "given state: changed fields, not sound",
     "given state: no state's bytes",
     "step of an unknown kind",
+    "step on no state's bytes",
     "executing executes",
     "executing spins",
     "executing not running",
+    "executing refused 1",
+    "is_sound ok",
+    "is_sound refused 1",
 ];
 
 /// The library has no meter rows.

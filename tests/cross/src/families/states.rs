@@ -127,18 +127,20 @@ fn asked_of_any(random: &mut Random, coverage: &mut Coverage, bytes: Vec<u8>) ->
 /// Whether it is sound, and what each server does.
 fn questions(coverage: &mut Coverage, bytes: &[u8], state: Option<&State>) -> Vec<Case> {
     let state_bytes = || bytes.to_vec();
+    let sound = state.is_some_and(State::is_sound);
+    let told = if sound { "ok" } else { "refused 1" };
+    coverage.note(format!("is_sound {told}"));
     let mut cases = vec![Case::Sound {
         state: state_bytes(),
     }];
     for server in (0..=LAST_SERVER_ASKED).chain([u16::MAX]) {
-        if let Some(state) = state {
-            let does = match state.executing(ServerNumber(server)) {
-                Execution::Executes(_) => "executes",
-                Execution::Spins(_) => "spins",
-                Execution::NotRunning => "not running",
-            };
-            coverage.note(format!("executing {does}"));
-        }
+        let does = match state.map(|state| state.executing(ServerNumber(server))) {
+            Some(Execution::Executes(_)) => "executes",
+            Some(Execution::Spins(_)) => "spins",
+            Some(Execution::NotRunning) => "not running",
+            None => "refused 1",
+        };
+        coverage.note(format!("executing {does}"));
         cases.push(Case::Executing {
             state: state_bytes(),
             server,
@@ -152,6 +154,8 @@ fn noted_step(coverage: &mut Coverage, bytes: &[u8], state: Option<&State>, even
         let mut after = *before;
         let answer = step(&mut after, event);
         coverage.note_step(before, event, answer, &after);
+    } else {
+        coverage.note("step on no state's bytes".to_string());
     }
     Case::Step {
         state: bytes.to_vec(),
