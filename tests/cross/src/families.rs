@@ -27,11 +27,11 @@ const fn family(name: &'static str, size: u64, make: Maker) -> Family {
     Family { name, size, make }
 }
 
-/// The four families of states are more than 20,000 together.
+/// Of the states, 20,000 and more are sound and out of reach from fresh, or break one clause alone.
 pub const FAMILIES: [Family; 9] = [
-    family("made-up sound states", 10_000, states::made_up),
+    family("made-up sound states", 14_000, states::made_up),
     family("perturbed sound states", 2_500, states::perturbed),
-    family("states with one clause broken", 4_200, states::broken),
+    family("states with one clause broken", 6_300, states::broken),
     family("states with fields changed", 6_000, states::changed),
     family("tables for fresh", 3_000, tables::fresh_tables),
     family("section tables", 5_000, tables::section_tables),

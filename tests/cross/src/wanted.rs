@@ -8,9 +8,12 @@ use second::generate::damage::Damage;
 
 /// States that break one clause alone, for each clause.
 const PER_CLAUSE: u64 = 100;
+/// Sound states that no events from fresh reach.
+pub const OUT_OF_REACH: &str = "given state: sound, out of reach from fresh";
+const TIMES_OUT_OF_REACH: u64 = 13_700;
 
 /// What only the cross-check reaches, most of it as it speaks of bytes.
-const OWN: [&str; 19] = [
+const OWN: [&str; 20] = [
     "fresh ok",
     "fresh refused 0",
     "fresh refused 19 for its length",
@@ -19,6 +22,7 @@ const OWN: [&str; 19] = [
     "replay refused 0",
     "given state: made up",
     "given state: perturbed",
+    OUT_OF_REACH,
     "given state: changed fields, sound",
     "given state: changed fields, not sound",
     "given state: no state's bytes",
@@ -43,9 +47,10 @@ fn wanted() -> Vec<(String, u64)> {
     names.retain(|name| is_exported(name));
     names.extend(OWN.map(String::from));
     names.extend(Damage::ALL.map(damage_name));
-    let times = |name: &str| match name.starts_with("broken alone: ") {
-        true => PER_CLAUSE,
-        false => 1,
+    let times = |name: &str| match name {
+        OUT_OF_REACH => TIMES_OUT_OF_REACH,
+        _ if name.starts_with("broken alone: ") => PER_CLAUSE,
+        _ => 1,
     };
     let with_times = names.into_iter().map(|name| {
         let times = times(&name);

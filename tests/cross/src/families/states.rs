@@ -8,12 +8,13 @@ use super::traces::any_run;
 use crate::case::Case;
 use crate::layout::fields;
 use crate::sides::Call;
+use crate::wanted::OUT_OF_REACH;
 use second::generate::coverage::Coverage;
 use second::generate::events::{next_event, possible_events, Kind, Manner};
 use second::generate::random::Random;
 use second::generate::states::{broken_state, perturbed_state, sound_state, tangled_state};
 use second::image::{decode, encode};
-use second::state::{fresh, Clause, Execution, ServerNumber, State};
+use second::state::{fresh, Clause, Execution, ServerNumber, State, TaskNumber};
 use second::step::{step, step_sound, Event};
 
 /// Server numbers up to one past those that a machine can have, and the largest.
@@ -95,6 +96,9 @@ fn asked_of_sound(random: &mut Random, coverage: &mut Coverage, state: &State) -
         let manner = Manner::any(random);
         events.push(next_event(random, &manner, state));
     }
+    if is_out_of_reach(state) {
+        coverage.note(OUT_OF_REACH.to_string());
+    }
     let bytes = encode(state);
     let mut cases = questions(coverage, &bytes, Some(state));
     for event in events {
@@ -104,6 +108,14 @@ fn asked_of_sound(random: &mut Random, coverage: &mut Coverage, state: &State) -
         cases.push(unknown_kind(random, coverage, bytes));
     }
     cases
+}
+
+/// Over any events from fresh, all own and lent ticks together equal all executed ones.
+fn is_out_of_reach(state: &State) -> bool {
+    let ticks = |server: ServerNumber| u64::from(state[server].own) + u64::from(state[server].lent);
+    let executed = |task: TaskNumber| u64::from(state[task].executed);
+    let total_ticks: u64 = state.server_numbers().map(ticks).sum();
+    total_ticks != state.task_numbers().map(executed).sum()
 }
 
 /// A few events with any numbers.
