@@ -8,7 +8,8 @@ use crate::layout::fields;
 use crate::sides::Call;
 use second::generate::runs::framed;
 use second::image::{decode, STATE_BYTES};
-use second::state::{Mode, Resource, Server, State, Task};
+use second::state::{Resource, Server, Task};
+use second::states::{counts_text, resource_text, server_text, task_text};
 use std::fmt::Write;
 use trace::disassemble::disassemble;
 use vesztamor::Answer;
@@ -177,28 +178,20 @@ fn state_text(bytes: &[u8]) -> String {
     let Some(state) = decode(bytes) else {
         return no_state_text(bytes);
     };
-    let State {
-        processors,
-        tasks,
-        resources,
-        clock,
-        ..
-    } = state;
-    let mut text =
-        format!("processors {processors}, tasks {tasks}, resources {resources}, clock {clock}\n");
+    let mut text = counts_text(&state);
     for (number, server) in state.server.iter().enumerate() {
         if *server != Server::default() {
-            let _ = writeln!(text, "server {number}: {}", server_text(server));
+            let _ = writeln!(text, "server {number} {}", server_text(server));
         }
     }
     for (number, task) in state.task.iter().enumerate() {
         if *task != Task::default() {
-            let _ = writeln!(text, "task {number}: {}", task_text(task));
+            let _ = writeln!(text, "task {number} {}", task_text(task));
         }
     }
     for (number, resource) in state.resource.iter().enumerate() {
         if *resource != Resource::default() {
-            let _ = writeln!(text, "resource {number}: {}", resource_text(resource));
+            let _ = writeln!(text, "resource {number} {}", resource_text(resource));
         }
     }
     text
@@ -213,54 +206,4 @@ fn no_state_text(bytes: &[u8]) -> String {
         let _ = writeln!(text, "{} {}", field.name, field.value(bytes));
     }
     text
-}
-
-fn server_text(server: &Server) -> String {
-    format!(
-        "{:?}, budget {}, deadline {}, Q {}, P {}, own {}, lent {}, spin {}",
-        server.phase,
-        server.budget,
-        server.deadline,
-        server.quota,
-        server.period,
-        server.own,
-        server.lent,
-        server.spin
-    )
-}
-
-fn task_text(task: &Task) -> String {
-    let mode = match task.mode {
-        Mode::Suspended => "suspended".to_string(),
-        Mode::Ready => "ready".to_string(),
-        Mode::Waiting(resource) => format!("waits for {}", resource.0),
-    };
-    let place = match task.runs {
-        None => "executes nowhere".to_string(),
-        Some(server) => format!("executes in {}", server.0),
-    };
-    let held: Vec<u16> = task.held.iter().map(|resource| resource.0).collect();
-    format!(
-        "{mode}, {place}, declared {:#06x}, executed {}, holds {} of {}",
-        task.declared,
-        task.executed,
-        task.depth,
-        places_text(&held)
-    )
-}
-
-fn resource_text(resource: &Resource) -> String {
-    let owner = match resource.owner {
-        None => "unowned".to_string(),
-        Some(task) => format!("owner {}", task.0),
-    };
-    let queue: Vec<u16> = resource.queue.iter().map(|task| task.0).collect();
-    let waiting = resource.waiting;
-    format!("{owner}, waiting {waiting} of {}", places_text(&queue))
-}
-
-/// The places up to the last that isn't 0.
-fn places_text(places: &[u16]) -> String {
-    let used = places.iter().rposition(|&place| place != 0);
-    format!("{:?}", &places[..used.map_or(0, |last| last + 1)])
 }

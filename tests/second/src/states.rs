@@ -3,7 +3,7 @@
 //!
 //! Assumes nothing of the state: entries past the counts are not shown.
 
-use crate::state::{fresh, Mode, Phase, State};
+use crate::state::{fresh, Mode, Phase, Resource, Server, State, Task};
 use crate::step::{step, Answer, Event};
 use crate::trace::{Place, Reading, Record, TableReader};
 use std::fmt::Write;
@@ -59,62 +59,71 @@ pub fn answer_text(answer: Answer) -> String {
     }
 }
 
-/// A line for the counts, then one for each server, task and resource in use. All sixteen places of
-/// a stack or queue are shown, those given up too.
+/// A line for the counts, then one for each server, task and resource in use.
 pub fn state_text(state: &State) -> String {
-    let mut text = format!(
-        "clock {} processors {} tasks {} resources {}\n",
-        state.clock, state.processors, state.tasks, state.resources
-    );
+    let mut text = counts_text(state);
+    // Writing to a string cannot fail, here and below.
     for number in state.server_numbers() {
-        let server = &state[number];
-        // Writing to a string cannot fail, here and below.
-        let _ = writeln!(
-            text,
-            "server {} {} budget {} deadline {} quota {} period {} own {} lent {} spin {}",
-            number.0,
-            phase_word(server.phase),
-            server.budget,
-            server.deadline,
-            server.quota,
-            server.period,
-            server.own,
-            server.lent,
-            server.spin
-        );
+        let _ = writeln!(text, "server {} {}", number.0, server_text(&state[number]));
     }
     for number in state.task_numbers() {
-        let task = &state[number];
-        let place = match task.runs {
-            None => "nowhere".to_string(),
-            Some(server) => format!("in {}", server.0),
-        };
-        let _ = writeln!(
-            text,
-            "task {} {} {place} declared {} executed {} holds {}:{}",
-            number.0,
-            mode_text(task.mode),
-            task.declared,
-            task.executed,
-            task.depth,
-            places(task.held.iter().map(|resource| resource.0))
-        );
+        let _ = writeln!(text, "task {} {}", number.0, task_text(&state[number]));
     }
     for number in state.resource_numbers() {
         let resource = &state[number];
-        let owner = match resource.owner {
-            None => "free".to_string(),
-            Some(task) => format!("owned by {}", task.0),
-        };
-        let _ = writeln!(
-            text,
-            "resource {} {owner} waiting {}:{}",
-            number.0,
-            resource.waiting,
-            places(resource.queue.iter().map(|task| task.0))
-        );
+        let _ = writeln!(text, "resource {} {}", number.0, resource_text(resource));
     }
     text
+}
+
+pub fn counts_text(state: &State) -> String {
+    format!(
+        "clock {} processors {} tasks {} resources {}\n",
+        state.clock, state.processors, state.tasks, state.resources
+    )
+}
+
+pub fn server_text(server: &Server) -> String {
+    format!(
+        "{} budget {} deadline {} quota {} period {} own {} lent {} spin {}",
+        phase_word(server.phase),
+        server.budget,
+        server.deadline,
+        server.quota,
+        server.period,
+        server.own,
+        server.lent,
+        server.spin
+    )
+}
+
+/// All sixteen places of the stack are shown, those given up too.
+pub fn task_text(task: &Task) -> String {
+    let place = match task.runs {
+        None => "nowhere".to_string(),
+        Some(server) => format!("in {}", server.0),
+    };
+    format!(
+        "{} {place} declared {} executed {} holds {}:{}",
+        mode_text(task.mode),
+        task.declared,
+        task.executed,
+        task.depth,
+        places(task.held.iter().map(|resource| resource.0))
+    )
+}
+
+/// All sixteen places of the queue are shown, those given up too.
+pub fn resource_text(resource: &Resource) -> String {
+    let owner = match resource.owner {
+        None => "free".to_string(),
+        Some(task) => format!("owned by {}", task.0),
+    };
+    format!(
+        "{owner} waiting {}:{}",
+        resource.waiting,
+        places(resource.queue.iter().map(|task| task.0))
+    )
 }
 
 fn places(numbers: impl Iterator<Item = u16>) -> String {
