@@ -11,7 +11,7 @@ use Rattle.bound.specs.declared.Sections.{Sections}
 use Rattle.bound.specs.declared.Tally.the-variants.{Of, Exceeded}
 use Rattle.bound.specs.Sets.{Tasks, Resources, noTask, noResource, with}
 use Rattle.bound.specs.Table.{refusal}
-use Rattle.bound.specs.Interference.{bound, level}
+use Rattle.bound.specs.Interference.{bound}
 use Rattle.bound.specs.Answer.{answer}
 use Rattle.bound.specs.Spending.{spend}
 use Rattle.bound.specs.Drawn.{Rows, rowsOf, outersIn, Ranged, Shown, sumsAt}

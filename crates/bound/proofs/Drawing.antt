@@ -6,9 +6,9 @@ use mathlib.Core.Logic.{⊎-elim}
 use Prim.Native.Nat.{ℕ, zero, suc, _+_, _-_, _<_, _≤_}
 use native.Mathlib.Numerals.{add-one, sub-one}
 use native.Mathlib.Omega.{arith}
-use lib.ListN.{length, getD, set, replicate, length-set}
+use lib.ListN.{length, getD, replicate, length-set}
 use lib.Seq.{getD-set-same, getD-set-other}
-use Rattle.laws.specs.Loops.{setTo, foldTo}
+use Rattle.laws.specs.Loops.{foldTo}
 use Rattle.laws.proofs.Set.{set-at}
 use Rattle.laws.proofs.Fold.{last-or-below}
 use Rattle.bound.specs.declared.Parent.{Parent}
@@ -16,7 +16,7 @@ use Rattle.bound.specs.declared.Parent.the-variants.{Outermost, Inside}
 use Rattle.bound.specs.declared.Sections.{Sections}
 use Rattle.bound.specs.Sets.{Resources, with}
 use Rattle.bound.specs.Table.{sectionAt, outer}
-use Rattle.bound.specs.Drawn.{Rows, parentOf, placeOfParent, rowOf, rowAt, rowsOf, aroundIn, outerNext, outersIn, taskIn, resourceIn, lengthIn, placeIn, Drawn, Shown, Ranged}
+use Rattle.bound.specs.Drawn.{Rows, parentOf, placeOfParent, rowOf, rowAt, rowsOf, aroundIn, outerNext, outersIn, resourceIn, placeIn, Drawn, Shown, Ranged}
 use Rattle.bound.proofs.Accepted.{Accepted}
 use Rattle.bound.proofs.Outwards.{outer-none, outer-is}
 

@@ -11,3 +11,4 @@ pub mod Steps
 pub mod Refusals
 pub mod Drawing
 pub mod Answered
+pub mod Says

@@ -13,7 +13,7 @@ use borrow.Author.Tests.{ltb-true, ltb-false, lt-ltb, le-ltb, eqb-true, eq-eqb, 
 use Rattle.laws.specs.Tests.{if_then_else_}
 use Rattle.laws.proofs.Cases.{split, and-left}
 use Rattle.bound.specs.declared.Parent.{Parent}
-use Rattle.bound.specs.declared.Parent.the-variants.{Outermost, Inside}
+use Rattle.bound.specs.declared.Parent.the-variants.{Inside}
 use Rattle.bound.specs.declared.Sections.{Sections}
 use Rattle.bound.specs.declared.Tally.{Tally}
 use Rattle.bound.specs.declared.Tally.the-variants.{Of, Exceeded}

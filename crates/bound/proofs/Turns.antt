@@ -1,17 +1,15 @@
 -- A turn of each loop that the code has: of one that tests all, and of one that spends an allowance. Assumes nothing.
 use mathlib.Core.Path.{_≡_, refl, sym, ap, _∙_}
-use mathlib.Core.Bool.{Bool, true, false, _&&_}
+use mathlib.Core.Bool.{Bool, _&&_}
 use mathlib.Core.Option.{Option, none, some}
 use Prim.Native.Nat.{ℕ, zero, suc, _+_, _-_, _<_, _≤_}
 use native.Mathlib.Numerals.{add-one}
 use native.Mathlib.Omega.{arith}
 use lib.Dec.{leb}
 use borrow.Author.Tests.{le-leb, lt-leb, leb-true, leb-false}
-use Rattle.laws.specs.Tests.{if_then_else_}
 use Rattle.laws.specs.Loops.{allTo}
 use Rattle.laws.proofs.Cases.{split}
 use Rattle.laws.proofs.Fold.{turns-done}
-use Rattle.bound.specs.declared.Tally.{Tally}
 use Rattle.bound.specs.declared.Tally.the-variants.{Of, Exceeded}
 use Rattle.bound.specs.Interference.{Weighed, weighed, Turn, run}
 use Rattle.bound.specs.Spending.{placeOf, sectionOf, spend}

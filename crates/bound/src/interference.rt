@@ -3,14 +3,14 @@
 // their outer resources, so that no weighing copies it. The contracts say what is answered for every table that these show. Assumes nothing.
 ghost use mathlib.Core.Path.{_≡_};
 ghost use mathlib.Core.Bool.{_&&_};
-ghost use Prim.Native.Nat.{ℕ, _+_, _-_, _<_, _≤_};
+ghost use Prim.Native.Nat.{_+_, _-_, _<_, _≤_};
 ghost use lib.Dec.{eqb, ltb};
 ghost use lib.ListN.{getD};
 ghost use Rattle.laws.specs.Tests.{if_then_else_};
 ghost use Rattle.bound.specs.declared.Sections.{Sections};
 ghost use Rattle.bound.specs.Interference.{level, weighing, best, order, blockers, ordering};
-ghost use Rattle.bound.specs.Spending.{spend, Fair};
-ghost use Rattle.bound.specs.Drawn.{Drawn, Ranged, Spends, taskIn, resourceIn, placeIn, parentOf, heldBy, weighedOn, triedNext, sumOver, sumsAt};
+ghost use Rattle.bound.specs.Spending.{Fair};
+ghost use Rattle.bound.specs.Drawn.{Drawn, Ranged, Spends, parentOf, heldBy, weighedOn, triedNext, sumOver, sumsAt};
 use crate::Tally;
 use crate::draw::LENGTH;
 use crate::draw::PLACE;

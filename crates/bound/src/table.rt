@@ -5,7 +5,7 @@ ghost use mathlib.Core.Option.{none};
 ghost use Prim.Native.Nat.{_<_, _≤_};
 ghost use Rattle.laws.specs.Tests.{if_then_else_, firstOf, _orElse_};
 ghost use Rattle.laws.specs.Loops.{allTo, foldTo};
-ghost use Rattle.bound.specs.Table.{sectionAt, directlyIn, childrenFit, sectionRefusal, tableRefusal, refusal};
+ghost use Rattle.bound.specs.Table.{directlyIn, childrenFit, sectionRefusal, tableRefusal, refusal};
 ghost use Rattle.bound.specs.Numbered.{numbered, parentTests, sectionTests};
 use crate::Parent;
 use crate::Section;

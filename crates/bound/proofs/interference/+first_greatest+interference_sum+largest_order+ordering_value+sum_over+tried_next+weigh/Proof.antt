@@ -1,14 +1,12 @@
 -- The proof of the cycle of calls: the interference sum, the ordering value, and what stands between them. The measure falls with the tasks
 -- outside B, then with the depth or with the tasks left to order. Assumes nothing.
-use mathlib.Core.Path.{_≡_, refl, sym, ap, _∙_}
-use mathlib.Core.Bool.{not}
+use mathlib.Core.Path.{_≡_, sym, _∙_}
 use mathlib.Core.Option.{none}
 use mathlib.Core.Logic.{⊎-elim}
 use Prim.Native.Nat.{ℕ, _+_, _-_, _*_, _<_, _≤_}
 use borrow.Fn.Kinds.{In}
 use borrow.Fn.PlainCycle.{Measures, is, falls, and}
 use native.Mathlib.Omega.{arith}
-use native.Mathlib.Numerals.{add-one}
 use borrow.Author.Needs.{needs}
 use borrow.Author.Tests.{not-true, not-false}
 use Rattle.bound.specs.declared.Sections.{Sections}
@@ -314,7 +312,7 @@ pub +first-greatest+interference-sum+largest-order+ordering-value+sum-over+tried
     (λ c. search needs)
     (λ c. search needs)
     (λ c. search needs)
-    (λ c κs. c .before .before .before .before .pre .1 .0 .resource-most _ (omega arith))
+    (λ c κs. let start = c .before .before .before .before in omega (arith, start .pre .1 .0 .resource-most (start .args .c) (start .pre .1 .1)))
     (λ c κs.
     let start = c .before .before .before .before .before .before in
     (omega (arith, start .pre .0), (start .pre .1 .0, omega arith, omega arith, omega arith)))

@@ -1,5 +1,4 @@
 -- `bound::interference::larger` meets its contract. Assumes nothing.
-use borrow.Author.Needs.{needs}
 use borrow.Author.Tests.{lt-ltb, le-ltb}
 use Rattle.bound.proofs.interference.larger.Statement.{statement}
 use Rattle.bound.proofs.interference.larger.Tie as tie

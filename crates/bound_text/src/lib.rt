@@ -1,0 +1,36 @@
+// A table of sections as text (docs/BOUNDS.md): a line with the number of tasks, then a line for each section, read a byte at a time.
+// What a text is read as stands in specs/. Assumes nothing.
+use bound::Section;
+
+mod bytes;
+pub mod read;
+
+// What a line has shown so far: how many fields and their numbers, whether the last byte stands in a number, whether the last field is a dash,
+// whether the line is understood, and whether a comment has begun.
+pub struct Line {
+    pub fields: u16,
+    pub value: [u32; 4],
+    pub inside: bool,
+    pub outermost: bool,
+    pub clear: bool,
+    pub comment: bool,
+}
+
+// What the lines have shown so far: `line` is the number of the line that is being read, from 1, or of the first that is not understood;
+// `first` is that of the line with the number of tasks, or 0; `lines` are those of the sections; `surplus` is that of a section past the
+// twelfth, or 0.
+pub struct Reading {
+    pub tasks: u16,
+    pub first: u32,
+    pub clear: bool,
+    pub count: u16,
+    pub section: [Section; 12],
+    pub lines: [u32; 12],
+    pub surplus: u32,
+    pub line: u32,
+}
+
+pub struct State {
+    pub reading: Reading,
+    pub line: Line,
+}

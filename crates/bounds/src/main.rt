@@ -1,0 +1,143 @@
+// The planners' program: a table of sections on standard input, the allowance as an argument, and a line for each task. The format is in
+// docs/BOUNDS.md. What is read stands in `bound_text`, what is calculated in `bound`; this only writes.
+use bound::Bounded;
+use bound::Sections;
+use bound_text::Reading;
+use libc::STDOUT_FILENO;
+
+const ALLOWANCE: u32 = 1000000;
+
+fn put(text: &[u8]) {
+    io::write_all(STDOUT_FILENO, text);
+}
+
+fn put_number(text: &[u8], number: u64) {
+    io::write_all(STDOUT_FILENO, text);
+    io::print_decimal(STDOUT_FILENO, number);
+}
+
+// What a refusal's number means.
+fn put_meaning(number: u16) {
+    match number {
+        40 => put(b": a table has 1 to 6 tasks and at most 12 sections\n"),
+        41 => put(
+            b": task, resource (0 to 15), length (1 to 1000000) or parent (an earlier section of the same task)\n",
+        ),
+        42 => put(b": its resource is not above its parent's\n"),
+        43 => put(b": with it the sections in its parent are longer than that\n"),
+        44 => put(b": no such task\n"),
+        45 => put(b": the allowance is 1 to 1000000\n"),
+        46 => put(b": more weighings than the allowance\n"),
+        _ => put(b"\n"),
+    }
+}
+
+fn put_refusal(number: u16) {
+    put_number(b"refused ", number as u64);
+    put_meaning(number);
+}
+
+fn put_line(line: u32) {
+    put_number(b"line ", line as u64);
+    put(b": ");
+}
+
+fn table(reading: Reading, count: u16) -> Sections {
+    let section = reading.section;
+    Sections {
+        tasks: reading.tasks,
+        count,
+        section,
+    }
+}
+
+// The number for which a table is refused, whatever is asked of it, or 0.
+fn refused(s: Sections) -> u16 {
+    match bound::answer::bound(s, 0, ALLOWANCE) {
+        Bounded::Bound(_, _) => 0,
+        Bounded::Refused(number) => if number <= 43 { number } else { 0 },
+    }
+}
+
+// The line of the number of tasks, of the first section with which the table is refused, or of one past the twelfth.
+fn faulty_line(reading: Reading) -> u32 {
+    let lines = reading.lines;
+    if refused(table(reading, 0)) != 0 {
+        return reading.first;
+    }
+    for count in 0..12u16 {
+        if count < reading.count {
+            if refused(table(reading, count + 1)) != 0 {
+                return lines[count as usize];
+            }
+        }
+    }
+    reading.surplus
+}
+
+fn put_bound(s: Sections, task: u16, allowance: u32) {
+    put_number(b"task ", task as u64);
+    match bound::answer::bound(s, task, allowance) {
+        Bounded::Bound(value, weighings) => {
+            put_number(b" bound ", value);
+            put_number(b" weighings ", weighings as u64);
+            put(b"\n");
+        }
+        Bounded::Refused(number) => {
+            put(b" ");
+            put_refusal(number);
+        }
+    }
+}
+
+fn put_bounds(s: Sections, allowance: u32) {
+    for task in 0..6u16 {
+        if task < s.tasks {
+            put_bound(s, task, allowance);
+        }
+    }
+}
+
+fn put_warning() {
+    put(
+        b"These figures are the calculation of the paper's Fig. 5, and not a safe bound on what a server can lose.\n",
+    );
+}
+
+fn put_reading(reading: Reading, allowance: u32) {
+    if !reading.clear {
+        put_line(reading.line);
+        put(
+            b"not understood: the number of tasks, or a section's task, resource, length and parent\n",
+        );
+        return;
+    }
+    let s = table(reading, reading.count);
+    let number = refused(s);
+    if number == 0 {
+        put_bounds(s, allowance);
+        put_warning();
+        return;
+    }
+    let line = faulty_line(reading);
+    if line != 0 {
+        put_line(line);
+    }
+    put_refusal(number);
+}
+
+// The first argument as a number; without it a million, with anything else 0, which is refused.
+fn allowance() -> u32 {
+    if os::arg_count() < 2 {
+        return ALLOWANCE;
+    }
+    let mut text = [0u8; 16];
+    let n = os::arg(1, &mut text);
+    bound_text::read::number(&text[..n])
+}
+
+fn main() {
+    let mut text = io::large_buffer();
+    let n = io::read_full(libc::STDIN_FILENO, &mut text);
+    put_reading(bound_text::read::read(&text[..n]), allowance());
+}
