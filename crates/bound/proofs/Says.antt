@@ -69,9 +69,3 @@ module _ (s : Sections) (t allowance : ℕ) where
 pub refused-zero : (x : Bounded) (n : ℕ) → said x .refused ≡ some n → (said x .bound ≡ 0) × (said x .weighings ≡ 0)
 refused-zero (Bound b k) n e = none-some e
 refused-zero (Refused k) n e = (refl, refl)
-
--- the contract leaves no choice
-pub unique
-    : (f g : Sections → ℕ → ℕ → Bounded) → ((s : Sections) (t allowance : ℕ) → f s t allowance ≡ answer s t allowance)
-    → ((s : Sections) (t allowance : ℕ) → g s t allowance ≡ answer s t allowance) → (s : Sections) (t allowance : ℕ) → f s t allowance ≡ g s t allowance
-unique f g e d s t allowance = e s t allowance ∙ sym (d s t allowance)

@@ -4,7 +4,7 @@ pub mod answer;
 mod draw;
 mod interference;
 mod sets;
-mod table;
+pub mod table;
 
 // Where a section stands: in none, or directly in the section of that number.
 pub enum Parent {

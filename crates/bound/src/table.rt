@@ -112,7 +112,7 @@ fn all_children_fit(s: Sections) -> bool
 }
 
 // 40 to 43.
-fn table_refusal(s: Sections) -> u16
+pub fn table_refusal(s: Sections) -> u16
     ensures { λ r. ⌜ numbered r ≡ tableRefusal s ⌝ }
 {
     if !((1 <= s.tasks) & (s.tasks <= 6) & (s.count <= 12)) {

@@ -1,1 +1,2 @@
 mod Texts
+mod Refused

@@ -2,7 +2,7 @@
 use mathlib.Core.Bool.{Bool, true, false, not}
 use mathlib.Core.List.{List}
 use Prim.Native.Nat.{ℕ, _+_}
-use lib.Dec.{ltb, leb, eqb}
+use lib.Dec.{ltb, eqb}
 use lib.ListN.{length, getD, set, replicate}
 use Rattle.laws.specs.Tests.{if_then_else_}
 use Rattle.laws.specs.Loops.{foldTo}
@@ -64,13 +64,14 @@ withTasks r l =
     if eqb (l .fields) 1 then readingSaid (short (getD (l .value) 0 0)) (r .line) (r .clear) (r .count) (r .section) (r .lines) (r .surplus) (r .line)
     else lost r
 
--- each other: a section, kept if it is one of the first twelve
+-- each other: a section, kept if it is one of the first twelve; of those past them the line of the first is
 unfoldable pub withSection : Reading → Line → Reading
 withSection r l =
     let sections = set (r .section) (r .count) (sectionSaid l) in
     let lines = set (r .lines) (r .count) (r .line) in
     if not (eqb (l .fields) 4) then lost r
-    else if leb 12 (r .count) then readingSaid (r .tasks) (r .first) (r .clear) 13 (r .section) (r .lines) (r .line) (r .line)
+    else if ltb 12 (r .count) then r
+    else if eqb (r .count) 12 then readingSaid (r .tasks) (r .first) (r .clear) 13 (r .section) (r .lines) (r .line) (r .line)
     else readingSaid (r .tasks) (r .first) (r .clear) (r .count + 1) sections lines (r .surplus) (r .line)
 
 unfoldable pub ended : Reading → Line → Reading

@@ -3,6 +3,7 @@
 use bound::Section;
 
 mod bytes;
+pub mod fault;
 pub mod read;
 
 // What a line has shown so far: how many fields and their numbers, whether the last byte stands in a number, whether the last field is a dash,
@@ -17,8 +18,8 @@ pub struct Line {
 }
 
 // What the lines have shown so far: `line` is the number of the line that is being read, from 1, or of the first that is not understood;
-// `first` is that of the line with the number of tasks, or 0; `lines` are those of the sections; `surplus` is that of a section past the
-// twelfth, or 0.
+// `first` is that of the line with the number of tasks, or 0; `lines` are those of the sections; `surplus` is that of the
+// thirteenth, or 0.
 pub struct Reading {
     pub tasks: u16,
     pub first: u32,

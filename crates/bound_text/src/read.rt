@@ -97,7 +97,7 @@ fn with_tasks(mut reading: Reading, line: Line) -> Reading
     reading
 }
 
-// Another section. One past the twelfth is counted and not kept.
+// Another section. The thirteenth is counted and not kept, and those after it change nothing.
 fn with_section(mut reading: Reading, line: Line) -> Reading
     ensures { λ r. ⌜ r ≡ withSection reading line ⌝ }
 {
@@ -106,7 +106,10 @@ fn with_section(mut reading: Reading, line: Line) -> Reading
     }
     let count = reading.count;
     let number = reading.line;
-    if 12 <= count {
+    if 12 < count {
+        return reading;
+    }
+    if count == 12 {
         reading.count = 13;
         reading.surplus = number;
         return reading;

@@ -1,8 +1,10 @@
 // The planners' program: a table of sections on standard input, the allowance as an argument, and a line for each task. The format is in
-// docs/BOUNDS.md. What is read stands in `bound_text`, what is calculated in `bound`; this only writes.
+// docs/BOUNDS.md. What is read, and at which line a table is refused, stands in `bound_text`, what is calculated in `bound`; this only writes.
 use bound::Bounded;
 use bound::Sections;
+use bound::table;
 use bound_text::Reading;
+use bound_text::fault;
 use libc::STDOUT_FILENO;
 
 const ALLOWANCE: u32 = 1000000;
@@ -42,39 +44,6 @@ fn put_line(line: u32) {
     put(b": ");
 }
 
-fn table(reading: Reading, count: u16) -> Sections {
-    let section = reading.section;
-    Sections {
-        tasks: reading.tasks,
-        count,
-        section,
-    }
-}
-
-// The number for which a table is refused, whatever is asked of it, or 0.
-fn refused(s: Sections) -> u16 {
-    match bound::answer::bound(s, 0, ALLOWANCE) {
-        Bounded::Bound(_, _) => 0,
-        Bounded::Refused(number) => if number <= 43 { number } else { 0 },
-    }
-}
-
-// The line of the number of tasks, of the first section with which the table is refused, or of one past the twelfth.
-fn faulty_line(reading: Reading) -> u32 {
-    let lines = reading.lines;
-    if refused(table(reading, 0)) != 0 {
-        return reading.first;
-    }
-    for count in 0..12u16 {
-        if count < reading.count {
-            if refused(table(reading, count + 1)) != 0 {
-                return lines[count as usize];
-            }
-        }
-    }
-    reading.surplus
-}
-
 fn put_bound(s: Sections, task: u16, allowance: u32) {
     put_number(b"task ", task as u64);
     match bound::answer::bound(s, task, allowance) {
@@ -112,14 +81,14 @@ fn put_reading(reading: Reading, allowance: u32) {
         );
         return;
     }
-    let s = table(reading, reading.count);
-    let number = refused(s);
+    let s = fault::table_to(reading, reading.count);
+    let number = table::table_refusal(s);
     if number == 0 {
         put_bounds(s, allowance);
         put_warning();
         return;
     }
-    let line = faulty_line(reading);
+    let line = fault::faulty_line(reading, number);
     if line != 0 {
         put_line(line);
     }
@@ -139,5 +108,9 @@ fn allowance() -> u32 {
 fn main() {
     let mut text = io::large_buffer();
     let n = io::read_full(libc::STDIN_FILENO, &mut text);
+    if n == 65536 {
+        put(b"not read: the text has more than 65535 bytes\n");
+        return;
+    }
     put_reading(bound_text::read::read(&text[..n]), allowance());
 }

@@ -11,6 +11,7 @@ mod figure_five;
 mod fuzz;
 mod generators;
 mod image;
+mod planners;
 mod programs;
 mod readings_bound;
 mod readings_events;
