@@ -9,7 +9,7 @@ use Rattle.bound.specs.declared.Bounded.the-variants.{Bound, Refused}
 use Rattle.bound.specs.declared.Parent.the-variants.{Outermost}
 use Rattle.bound.specs.declared.Sections.{Sections}
 use Rattle.bound.specs.declared.Tally.the-variants.{Of, Exceeded}
-use Rattle.bound.specs.Sets.{Tasks, Resources, noTask, noResource, with}
+use Rattle.bound.specs.Sets.{Tasks, Resources, noTask, with, resourcesOf}
 use Rattle.bound.specs.Table.{refusal}
 use Rattle.bound.specs.Interference.{bound}
 use Rattle.bound.specs.Answer.{answer}
@@ -20,6 +20,7 @@ use Rattle.bound.proofs.Accepted.{Accepted}
 use Rattle.bound.proofs.Answers.{table-accepted}
 use Rattle.bound.proofs.Drawing.{rows-drawn, rows-ranged, outers-shown}
 use Rattle.bound.proofs.Turns.{lasted, exceeded}
+use Rattle.bound.proofs.Masks.{mask-none}
 use Rattle.bound.proofs.Steps.{sums-level}
 
 pub number-none : (n : ℕ) (s : Sections) (t allowance : ℕ) → numbered n ≡ refusal s t allowance → n ≡ 0 → refusal s t allowance ≡ none
@@ -40,9 +41,9 @@ module _ (s : Sections) (t allowance : ℕ) (free : refusal s t allowance ≡ no
   pub shown : (rows : Rows) (outers : List Resources) → rows ≡ rowsOf s → outers ≡ outersIn rows (s .count) → Shown s rows outers (s .count)
   shown rows outers e d = rw (d, e) (outers-shown s good (rowsOf s) (s .count) (rows-drawn s (good .count-most)))
 
-  pub spent-is : (itself : Tasks) → itself ≡ with noTask t → spend (sumsAt (s .tasks - 1) 12 s itself t Outermost noResource) allowance ≡ spend (bound s t) allowance
+  pub spent-is : (itself : Tasks) → itself ≡ with noTask t → spend (sumsAt (s .tasks - 1) 12 s itself t Outermost (resourcesOf 0)) allowance ≡ spend (bound s t) allowance
   unfolding bound
-  spent-is itself e = rw (e, sums-level)
+  spent-is itself e = rw (e, mask-none, sums-level)
 
   pub answer-of : (v u l : ℕ) → Of v u l ≡ spend (bound s t) allowance → Bound v (allowance - l) ≡ answer s t allowance
   unfolding answer

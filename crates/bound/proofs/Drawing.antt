@@ -14,20 +14,24 @@ use Rattle.laws.proofs.Fold.{last-or-below}
 use Rattle.bound.specs.declared.Parent.{Parent}
 use Rattle.bound.specs.declared.Parent.the-variants.{Outermost, Inside}
 use Rattle.bound.specs.declared.Sections.{Sections}
-use Rattle.bound.specs.Sets.{Resources, with}
+use Rattle.bound.specs.Sets.{Resources, noResource, with, resourcesOf, setsOf}
 use Rattle.bound.specs.Table.{sectionAt, outer}
 use Rattle.bound.specs.Drawn.{Rows, parentOf, placeOfParent, rowOf, rowAt, rowsOf, aroundIn, outerNext, outersIn, resourceIn, placeIn, Drawn, Shown, Ranged}
 use Rattle.bound.proofs.Accepted.{Accepted}
+use Rattle.bound.proofs.Masks.{sets-at}
 use Rattle.bound.proofs.Outwards.{outer-none, outer-is}
 
 pub place-inside : (o : Parent) (p : ℕ) → o ≡ Inside p → p + 1 ≡ placeOfParent o
 place-inside o p e = rw e
 
+pub around-none : (rows : Rows) (outers : List Resources) (place : ℕ) → place ≡ 0 → noResource ≡ aroundIn rows outers place
+around-none rows outers place e = rw e
+
 pub around-more
-    : (rows : Rows) (outers : List Resources) (r : Resources) (place : ℕ) → (place ≡ 0 → ⊥)
-    → r ≡ with (getD outers (place - 1) []) (resourceIn rows (place - 1)) → r ≡ aroundIn rows outers place
-around-more rows outers r zero n e = absurd (n refl)
-around-more rows outers r (suc p) n e = rw sub-one at e
+    : (rows : Rows) (masks : List ℕ) (r : Resources) (place : ℕ) → (place ≡ 0 → ⊥) → place ≤ 12
+    → r ≡ with (resourcesOf (getD masks (place - 1) 0)) (resourceIn rows (place - 1)) → r ≡ aroundIn rows (setsOf masks) place
+around-more rows masks r zero n l e = absurd (n refl)
+around-more rows masks r (suc p) n l e = (rw sub-one at e) ∙ ap (λ o. with o (resourceIn rows p)) (sym (sets-at masks p (omega arith)))
 
 parent-place : (o : Parent) → parentOf (placeOfParent o) ≡ o
 parent-place Outermost = refl

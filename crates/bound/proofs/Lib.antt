@@ -12,3 +12,6 @@ pub mod Refusals
 pub mod Drawing
 pub mod Answered
 pub mod Says
+pub mod Masks
+pub mod Spans
+pub mod Skips

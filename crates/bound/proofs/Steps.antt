@@ -17,11 +17,12 @@ use Rattle.bound.specs.declared.Parent.the-variants.{Inside}
 use Rattle.bound.specs.declared.Sections.{Sections}
 use Rattle.bound.specs.declared.Tally.{Tally}
 use Rattle.bound.specs.declared.Tally.the-variants.{Of, Exceeded}
-use Rattle.bound.specs.Sets.{Tasks, Resources, has, with, without, joined, meets}
+use Rattle.bound.specs.Sets.{Tasks, Resources, has, with, without, joined, meets, resourcesOf, setsOf}
 use Rattle.bound.specs.Table.{sectionAt, outer, directlyIn}
 use Rattle.bound.specs.Interference.{Weighed, weighed, nothing, Turn, run, Calculation, Weighing, weighingIf, weighing, isOn, bestTurn, best, heldAfter, orderTurn, order, blocker, blockers, ordering, isIn, sumTurn, sums, level}
 use Rattle.bound.specs.Spending.{placeOf, sectionOf, spend, Grown, Fair}
 use Rattle.bound.specs.Drawn.{Rows, Drawn, Shown, taskIn, resourceIn, lengthIn, placeIn, parentOf, heldBy, weighedOn, triedNext, sumOver, sumsAt}
+use Rattle.bound.proofs.Masks.{sets-at}
 use Rattle.bound.proofs.Turns.{turn-on, turn-out, lasted, exceeded, spend-in, spend-out, both, both-of, both-out, both-later}
 
 -- a store that keeps what was there unless y holds
@@ -36,11 +37,21 @@ unfolding blocker
 blocker-turn s rows count q b found i d l = rw (d .task-is i l, d .resource-is i l) (store-or found _ _)
 
 -- what joins Held
+pub held-none : (outers : List Resources) (held : Resources) (place : ℕ) → place ≡ 0 → held ≡ heldBy outers held place
+held-none outers held place e = rw e
+
 pub held-more
-    : (outers : List Resources) (held r : Resources) (place : ℕ) → (place ≡ 0 → ⊥)
-    → r ≡ joined held (getD outers (place - 1) []) → r ≡ heldBy outers held place
-held-more outers held r zero n e = absurd (n refl)
-held-more outers held r (suc i) n e = rw sub-one at e
+    : (masks : List ℕ) (held r : Resources) (place : ℕ) → (place ≡ 0 → ⊥) → place ≤ 12
+    → r ≡ joined held (resourcesOf (getD masks (place - 1) 0)) → r ≡ heldBy (setsOf masks) held place
+held-more masks held r zero n l e = absurd (n refl)
+held-more masks held r (suc i) n l e = (rw sub-one at e) ∙ ap (joined held) (sym (sets-at masks i (omega arith)))
+
+-- an entry of the drawn sets that meets Held or joins it
+pub meets-at : (masks : List ℕ) (i : ℕ) (held : Resources) (m : Bool) → i < 12 → m ≡ meets (resourcesOf (getD masks i 0)) held → m ≡ meets (getD (setsOf masks) i []) held
+meets-at masks i held m l e = e ∙ ap (λ o. meets o held) (sym (sets-at masks i l))
+
+pub joined-at : (masks : List ℕ) (i : ℕ) (held r : Resources) → i < 12 → r ≡ joined held (resourcesOf (getD masks i 0)) → r ≡ joined held (getD (setsOf masks) i [])
+joined-at masks i held r l e = e ∙ ap (joined held) (sym (sets-at masks i l))
 
 -- an answer's value and giver, taken apart
 pub fair-of : (count v a : ℕ) (r : Tally) (n u l : ℕ) → r ≡ Of n u l → Fair count v a r → Grown count v a n u l
@@ -49,7 +60,7 @@ fair-of count v a r n u l e f = rw e at f
 pub nothing-of : (a : ℕ) → Of 0 0 a ≡ spend nothing a
 nothing-of a = sym (spend-in nothing a (omega arith) ∙ ap (Of 0 0) (omega arith))
 
-place-test : (n m : ℕ) → eqb n m ≡ directlyIn (parentOf n) (parentOf m)
+pub place-test : (n m : ℕ) → eqb n m ≡ directlyIn (parentOf n) (parentOf m)
 place-test zero zero = refl
 place-test zero (suc m) = ne-eqb zero (suc m) (λ e. omega arith)
 place-test (suc n) zero = ne-eqb (suc n) zero (λ e. omega arith)
@@ -170,6 +181,10 @@ module _ (weigh : Weighing) (after : Tasks → Tasks → Resources → Weighed) 
       let is = lasted tried a y p k e .value-is in
       turn-on trial n x v 0 a tried y p k m 0 l e (tried-is ∙ ap (λ w. weighed w none (tried .weighings)) (sym (rw (← is) h)))
 
+  pub order-skips : has remaining x ≡ false → spend (run trial (n - (x + 1)) (x + 1) v none) a ≡ spend (run trial (n - x) x v none) a
+  unfolding triedNext
+  order-skips gone = order-goes 0 0 a v (rw gone (nothing-of a)) (rw (le-ltb v 0 (omega arith)))
+
   pub order-exceeds : Exceeded ≡ spend tried a → Exceeded ≡ spend (run trial (n - x) x v none) a
   order-exceeds e = turn-out trial n x v 0 a tried l e (ap (λ w. w .weighings) tried-is)
 
@@ -205,10 +220,6 @@ module _ (s : Sections) (rows : Rows) (outers : List Resources) (count : ℕ) (s
 
     abbrev rest : Weighed
     rest = after b (without remaining x) (heldAfter s held (next .giver))
-
-    pub tried-not : has remaining x ≡ false → Of 0 0 a ≡ spend (triedNext weigh after s q b remaining held x) a
-    unfolding triedNext
-    tried-not n = rw n (nothing-of a)
 
     module _ (there : has remaining x ≡ true) where
       pub tried-out : Exceeded ≡ spend next a → Exceeded ≡ spend (triedNext weigh after s q b remaining held x) a

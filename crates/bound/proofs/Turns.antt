@@ -77,12 +77,14 @@ spend-later k a v g n h =
     spend-out (weighed v g (k + n)) a (omega arith) ∙ sym (spend-out (weighed v g n) (a - k) l))
 
 -- a loop over n turns, at turn i with the value v, the giver's place u and the allowance a
+-- nothing more is weighed
+pub spend-none : (v u a : ℕ) → spend (weighed v (sectionOf u) 0) a ≡ Of v u a
+spend-none v u a = spend-in (weighed v (sectionOf u) 0) a (omega arith) ∙ ap (λ p. Of v p (a - 0)) (place-section u) ∙ ap (Of v u) (omega arith)
+
 module _ (f : Turn) (n i v u a : ℕ) where
   pub turns-end : i ≤ n → n ≤ i → spend (run f (n - i) i v (sectionOf u)) a ≡ Of v u a
   unfolding run
-  turns-end l m =
-      let e : n - i ≡ 0 = omega arith in
-      rw e (spend-in (weighed v (sectionOf u) 0) a (omega arith) ∙ ap (λ p. Of v p (a - 0)) (place-section u) ∙ ap (Of v u) (omega arith))
+  turns-end l m = let e : n - i ≡ 0 = omega arith in rw e (spend-none v u a)
 
   opened
       : i < n → let now = f i v (sectionOf u) in

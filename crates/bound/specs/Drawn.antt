@@ -1,8 +1,10 @@
--- A table drawn out into arrays: a row of four numbers for each section, and its outer resources. Entries past the count say nothing. Assumes nothing.
+-- A table drawn out into arrays: a row of four numbers for each section, its outer resources, and the spans of numbers in which sections stand.
+-- Entries past the count say nothing. Assumes nothing.
 use mathlib.Core.Path.{_≡_}
 use mathlib.Core.Option.{none}
 use mathlib.Core.List.{List, [], _∷_}
-use Prim.Native.Nat.{ℕ, zero, suc, _+_, _<_, _≤_}
+use Prim.Native.Nat.{ℕ, zero, suc, _+_, _-_, _*_, _<_, _≤_}
+use lib.Dec.{eqb}
 use lib.ListN.{getD, set, replicate}
 use Rattle.laws.specs.Tests.{if_then_else_}
 use Rattle.laws.specs.Loops.{setTo, foldTo}
@@ -62,6 +64,37 @@ outerNext rows i outers = set outers i (aroundIn rows outers (placeIn rows i))
 unfoldable pub outersIn : Rows → ℕ → List Resources
 outersIn rows count = foldTo count (outerNext rows) (replicate 12 noResource)
 
+abbrev pub Spans : Type 0
+Spans = List (List ℕ)
+
+-- the span of a task's sections on a resource, and that of the sections directly in the section at a place
+abbrev pub onSpan : ℕ → ℕ → ℕ
+onSpan task resource = task * 16 + resource
+
+abbrev pub inSpan : ℕ → ℕ
+inSpan place = 96 + place
+
+abbrev pub fromIn : Spans → ℕ → ℕ
+fromIn spans k = getD (getD spans k []) 0 0
+
+abbrev pub endIn : Spans → ℕ → ℕ
+endIn spans k = getD (getD spans k []) 1 0
+
+-- a span with section i at its end
+abbrev pub widened : List ℕ → ℕ → List ℕ
+widened span i = (if eqb (getD span 1 0) 0 then i else getD span 0 0) ∷ (i + 1) ∷ []
+
+-- section i stands in span k
+abbrev pub Covers : Spans → ℕ → ℕ → Type 0
+Covers spans k i = (fromIn spans k ≤ i) × (i < endIn spans k)
+
+-- every section stands in its spans, of which none goes past the count
+pub record Spanned (rows : Rows) (spans : Spans) (count : ℕ) : Type 0 where
+  pub in-order : (k : ℕ) → fromIn spans k ≤ endIn spans k - 1
+  pub end-most : (k : ℕ) → endIn spans k ≤ count
+  pub on-covered : (i : ℕ) → i < count → Covers spans (onSpan (taskIn rows i) (resourceIn rows i)) i
+  pub in-covered : (i : ℕ) → i < count → Covers spans (inSpan (placeIn rows i)) i
+
 -- the rows are those of the table
 pub record Drawn (s : Sections) (rows : Rows) (count : ℕ) : Type 0 where
   pub count-is : count ≡ s .count
@@ -86,6 +119,11 @@ pub record Ranged (rows : Rows) (count : ℕ) : Type 0 where
   pub resource-most : (i : ℕ) → i < count → resourceIn rows i < 16
   pub length-most : (i : ℕ) → i < count → lengthIn rows i ≤ 1000000
   pub place-most : (i : ℕ) → i < count → placeIn rows i ≤ i
+
+-- rows and spans that the calculation can go by
+pub record Laid (rows : Rows) (spans : Spans) (count : ℕ) : Type 0 where
+  pub ranged : Ranged rows count
+  pub spanned : Spanned rows spans count
 
 -- what joins Held for the section at a place
 abbrev pub heldBy : List Resources → Resources → ℕ → Resources

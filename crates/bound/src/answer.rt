@@ -20,6 +20,7 @@ pub fn bound(s: Sections, task: u16, allowance: u32) -> Bounded
     }
     let t = task as usize;
     let rows = draw::rows(s);
+    let spans = draw::spans(&rows, s.count as usize);
     let outers = draw::outers(&rows, s.count as usize);
     let reach = Reach {
         count: s.count as usize,
@@ -28,8 +29,17 @@ pub fn bound(s: Sections, task: u16, allowance: u32) -> Bounded
     };
     let nobody = [false; 6];
     let itself = sets::with_task(&nobody, t);
-    let r = [false; 16];
-    let found = interference::interference_sum(&rows, &outers, reach, &itself, t, 0, &r, allowance);
+    let found = interference::interference_sum(
+        &rows,
+        &spans,
+        &outers,
+        reach,
+        &itself,
+        t,
+        0,
+        0,
+        allowance,
+    );
     let Tally::Of(value, _, left) = found else {
         return Bounded::Refused(46);
     };

@@ -1,8 +1,10 @@
-// A table drawn out into arrays, once, so that the calculation copies no table: a row of four numbers for each section and its outer resources.
+// A table drawn out into arrays, once, so that the calculation copies no table: a row of four numbers for each section, its outer resources, and
+// where the sections stand that a calculation goes over.
 // Entries past the count are not read. Assumes nothing.
 ghost use mathlib.Core.Path.{_≡_};
-ghost use Prim.Native.Nat.{_≤_};
-ghost use Rattle.bound.specs.Drawn.{Ranged, placeOfParent, rowOf, rowsOf, aroundIn, outersIn};
+ghost use Prim.Native.Nat.{_<_, _≤_};
+ghost use Rattle.bound.specs.Sets.{resourcesOf, setsOf};
+ghost use Rattle.bound.specs.Drawn.{Ranged, placeOfParent, rowOf, rowsOf, aroundIn, outersIn, onSpan, inSpan, widened, Spanned};
 use crate::Parent;
 use crate::Section;
 use crate::Sections;
@@ -16,6 +18,29 @@ pub(crate) const RESOURCE: usize = 1;
 pub(crate) const LENGTH: usize = 2;
 
 pub(crate) const PLACE: usize = 3;
+
+// The numbers of a span.
+pub(crate) const FROM: usize = 0;
+
+pub(crate) const END: usize = 1;
+
+// The number of the span of a task's sections on a resource.
+pub(crate) fn on_span(task: usize, resource: usize) -> usize
+    requires { ⌜ (task < 6) × (resource < 16) ⌝ }
+    ensures is { λ r. ⌜ r ≡ onSpan task resource ⌝ }
+    ensures small { λ r. ⌜ r < 109 ⌝ }
+{
+    task * 16 + resource
+}
+
+// The number of the span of the sections directly in the section at a place.
+pub(crate) fn in_span(place: usize) -> usize
+    requires { ⌜ place ≤ 12 ⌝ }
+    ensures is { λ r. ⌜ r ≡ inSpan place ⌝ }
+    ensures small { λ r. ⌜ r < 109 ⌝ }
+{
+    96 + place
+}
 
 // The place of a section's parent: its number and one, or 0 for none.
 fn place(parent: Parent) -> usize
@@ -52,32 +77,54 @@ pub(crate) fn rows(s: Sections) -> [[usize; 4]; 12]
 }
 
 // The resources around whatever stands in the section at the place: its own and those around it.
-fn around(
-    rows: &[[usize; 4]; 12],
-    outers: &[[bool; 16]; 12],
-    count: usize,
-    place: usize,
-) -> [bool; 16]
+fn around(rows: &[[usize; 4]; 12], outers: &[u16; 12], count: usize, place: usize) -> u16
     requires { ⌜ Ranged (now rows) count × (place ≤ count) ⌝ }
-    ensures { λ r. ⌜ r ≡ aroundIn (now (rows .entry)) (now (outers .entry)) place ⌝ }
+    ensures { λ r. ⌜ resourcesOf r ≡ aroundIn (now (rows .entry)) (setsOf (now (outers .entry))) place ⌝ }
 {
     if place == 0 {
-        return [false; 16];
+        return 0;
     }
     let parent = place - 1;
-    sets::with_resource(&outers[parent], rows[parent][RESOURCE])
+    sets::with_resource(outers[parent], rows[parent][RESOURCE])
 }
 
 // The outer resources of each section. A parent comes before its children, so its own are drawn already.
-pub(crate) fn outers(rows: &[[usize; 4]; 12], count: usize) -> [[bool; 16]; 12]
+pub(crate) fn outers(rows: &[[usize; 4]; 12], count: usize) -> [u16; 12]
     requires { ⌜ Ranged (now rows) count ⌝ }
-    ensures { λ r. ⌜ r ≡ outersIn (now (rows .entry)) count ⌝ }
+    ensures { λ r. ⌜ setsOf r ≡ outersIn (now (rows .entry)) count ⌝ }
 {
-    let empty = [false; 16];
-    let mut drawn = [empty; 12];
+    let mut drawn = [0; 12];
     for i in 0..count {
         let next = around(rows, &drawn, count, rows[i][PLACE]);
         drawn[i] = next;
+    }
+    drawn
+}
+
+// A span with section i at its end.
+fn widened(span: [usize; 2], i: usize) -> [usize; 2]
+    requires { ⌜ i < 12 ⌝ }
+    ensures { λ r. ⌜ r ≡ widened span i ⌝ }
+{
+    if span[END] == 0 {
+        return [i, i + 1];
+    }
+    [span[FROM], i + 1]
+}
+
+// Where the sections of a task on a resource stand, or those directly in the section at a place: the first number and the end of the numbers.
+// No calculation looks at a section outside the span that it asks for.
+pub(crate) fn spans(rows: &[[usize; 4]; 12], count: usize) -> [[usize; 2]; 109]
+    requires { ⌜ Ranged (now rows) count ⌝ }
+    ensures { λ r. ⌜ Spanned (now (rows .entry)) r count ⌝ }
+{
+    let empty = [0; 2];
+    let mut drawn = [empty; 109];
+    for i in 0..count {
+        let on = on_span(rows[i][TASK], rows[i][RESOURCE]);
+        drawn[on] = widened(drawn[on], i);
+        let inside = in_span(rows[i][PLACE]);
+        drawn[inside] = widened(drawn[inside], i);
     }
     drawn
 }

@@ -1,17 +1,21 @@
 // The interference sum and the ordering value, which call one another until tasks and depth run out (01, "Interference bound"). An allowance is
-// spent for each section weighed, and nothing more is weighed once it is exceeded. The table comes as rows of four numbers for each section and
-// their outer resources, so that no weighing copies it. The contracts say what is answered for every table that these show. Assumes nothing.
+// spent for each section weighed, and nothing more is weighed once it is exceeded. The table comes as rows of four numbers for each section,
+// their outer resources, and where a calculation's sections stand (`draw`), so that no weighing copies it. The contracts say what is answered for every table that these show. Assumes nothing.
 ghost use mathlib.Core.Path.{_≡_};
-ghost use mathlib.Core.Bool.{_&&_};
+ghost use mathlib.Core.Bool.{true, _&&_};
 ghost use Prim.Native.Nat.{_+_, _-_, _<_, _≤_};
 ghost use lib.Dec.{eqb, ltb};
 ghost use lib.ListN.{getD};
 ghost use Rattle.laws.specs.Tests.{if_then_else_};
 ghost use Rattle.bound.specs.declared.Sections.{Sections};
+ghost use Rattle.bound.specs.Sets.{has, resourcesOf, setsOf};
 ghost use Rattle.bound.specs.Interference.{level, weighing, best, order, blockers, ordering};
 ghost use Rattle.bound.specs.Spending.{Fair};
-ghost use Rattle.bound.specs.Drawn.{Drawn, Ranged, Spends, parentOf, heldBy, weighedOn, triedNext, sumOver, sumsAt};
+ghost use Rattle.bound.specs.Drawn.{Drawn, Ranged, Laid, Spends, parentOf, heldBy, weighedOn, triedNext, sumOver, sumsAt};
 use crate::Tally;
+use crate::draw;
+use crate::draw::END;
+use crate::draw::FROM;
 use crate::draw::LENGTH;
 use crate::draw::PLACE;
 use crate::draw::RESOURCE;
@@ -46,14 +50,14 @@ fn larger(a: u64, b: u64) -> u64
 }
 
 // Held once the section at the place has been chosen.
-fn held_after(outer: &[[bool; 16]; 12], held: &[bool; 16], place: usize) -> [bool; 16]
+fn held_after(outer: &[u16; 12], held: u16, place: usize) -> u16
     requires { ⌜ place ≤ 12 ⌝ }
-    ensures { λ r. ⌜ r ≡ heldBy (now (outer .entry)) (now (held .entry)) place ⌝ }
+    ensures { λ r. ⌜ resourcesOf r ≡ heldBy (setsOf (now (outer .entry))) (resourcesOf held) place ⌝ }
 {
     if place == 0 {
-        return *held;
+        return held;
     }
-    sets::joined(held, &outer[place - 1])
+    sets::joined(held, outer[place - 1])
 }
 
 // The tasks outside B that have a section on the resource.
@@ -72,17 +76,18 @@ fn blockers(rows: &[[usize; 4]; 12], count: usize, b: &[bool; 6], resource: usiz
 // What section i weighs, if it is the task's on the resource: nothing where its outer resources meet Held, else its length and its children.
 fn weigh(
     rows: &[[usize; 4]; 12],
-    outer: &[[bool; 16]; 12],
+    spans: &[[usize; 2]; 109],
+    outer: &[u16; 12],
     reach: Reach,
     b: &[bool; 6],
-    held: &[bool; 16],
+    held: u16,
     resource: usize,
     task: usize,
     i: usize,
     allowance: u32,
 ) -> Tally
-    requires { ⌜ Ranged (now rows) (reach .count) × (task < 6) × (i < reach .count) × (reach .left ≤ 6) × (allowance ≤ 1000000) ⌝ }
-    ensures is { λ r. ⌜ Spends (now (rows .entry)) (now (outer .entry)) (reach .count) (λ s. weighedOn (level (reach .left) s) s resource task (now (b .entry)) (now (held .entry)) i) allowance r ⌝ }
+    requires { ⌜ Laid (now rows) (now spans) (reach .count) × (task < 6) × (i < reach .count) × (reach .left ≤ 6) × (allowance ≤ 1000000) ⌝ }
+    ensures is { λ r. ⌜ Spends (now (rows .entry)) (setsOf (now (outer .entry))) (reach .count) (λ s. weighedOn (level (reach .left) s) s resource task (now (b .entry)) (resourcesOf held) i) allowance r ⌝ }
     ensures fair { λ r. ⌜ Fair (reach .count) 0 allowance r ⌝ }
 {
     if !is_on(&rows[i], task, resource) {
@@ -92,7 +97,7 @@ fn weigh(
         return Tally::Exceeded;
     }
     let kept = allowance - 1;
-    if sets::meets(&outer[i], held) {
+    if sets::meets(outer[i], held) {
         return Tally::Of(0, 0, kept);
     }
     let below = Reach {
@@ -101,8 +106,8 @@ fn weigh(
         depth: 12,
     };
     let wider = sets::with_task(b, task);
-    let joint = sets::joined(held, &outer[i]);
-    let nested = interference_sum(rows, outer, below, &wider, task, i + 1, &joint, kept);
+    let joint = sets::joined(held, outer[i]);
+    let nested = interference_sum(rows, spans, outer, below, &wider, task, i + 1, joint, kept);
     let Tally::Of(value, _, left) = nested else {
         return Tally::Exceeded;
     };
@@ -112,24 +117,27 @@ fn weigh(
 // "The first greatest counts": of the task's sections on the resource, by number.
 fn first_greatest(
     rows: &[[usize; 4]; 12],
-    outer: &[[bool; 16]; 12],
+    spans: &[[usize; 2]; 109],
+    outer: &[u16; 12],
     reach: Reach,
     b: &[bool; 6],
-    held: &[bool; 16],
+    held: u16,
     resource: usize,
     task: usize,
     allowance: u32,
 ) -> Tally
-    requires { ⌜ Ranged (now rows) (reach .count) × (task < 6) × (reach .left ≤ 6) × (allowance ≤ 1000000) ⌝ }
-    ensures is { λ r. ⌜ Spends (now (rows .entry)) (now (outer .entry)) (reach .count) (λ s. best (weighing (level (reach .left) s) s (now (b .entry)) (now (held .entry))) s resource task) allowance r ⌝ }
+    requires { ⌜ Laid (now rows) (now spans) (reach .count) × (task < 6) × (reach .left ≤ 6) × (allowance ≤ 1000000) × (resource < 16) ⌝ }
+    ensures is { λ r. ⌜ Spends (now (rows .entry)) (setsOf (now (outer .entry))) (reach .count) (λ s. best (weighing (level (reach .left) s) s (now (b .entry)) (resourcesOf held)) s resource task) allowance r ⌝ }
     ensures fair { λ r. ⌜ Fair (reach .count) 0 allowance r ⌝ }
 {
-    let count = reach.count;
+    let on = draw::on_span(task, resource);
+    let from = spans[on][FROM];
+    let end = spans[on][END];
     let mut value = 0;
     let mut giver = 0;
     let mut kept = allowance;
-    for i in 0..count {
-        let weighed = weigh(rows, outer, reach, b, held, resource, task, i, kept);
+    for i in from..end {
+        let weighed = weigh(rows, spans, outer, reach, b, held, resource, task, i, kept);
         let Tally::Of(new, _, left) = weighed else {
             return Tally::Exceeded;
         };
@@ -142,26 +150,34 @@ fn first_greatest(
     Tally::Of(value, giver, kept)
 }
 
-// "trying each remaining task next, then each remaining after it": this task next, if it remains.
+// "trying each remaining task next, then each remaining after it": this task next, which remains.
 fn tried_next(
     rows: &[[usize; 4]; 12],
-    outer: &[[bool; 16]; 12],
+    spans: &[[usize; 2]; 109],
+    outer: &[u16; 12],
     reach: Reach,
     b: &[bool; 6],
     remaining: &[bool; 6],
-    held: &[bool; 16],
+    held: u16,
     resource: usize,
     task: usize,
     allowance: u32,
 ) -> Tally
-    requires { ⌜ Ranged (now rows) (reach .count) × (task < 6) × (reach .left ≤ 6) × (1 ≤ reach .depth) × (reach .depth ≤ 6) × (allowance ≤ 1000000) ⌝ }
-    ensures is { λ r. ⌜ Spends (now (rows .entry)) (now (outer .entry)) (reach .count) (λ s. let weigh = weighing (level (reach .left) s) s in triedNext weigh (order (reach .depth - 1) weigh s resource) s resource (now (b .entry)) (now (remaining .entry)) (now (held .entry)) task) allowance r ⌝ }
+    requires { ⌜ Laid (now rows) (now spans) (reach .count) × (task < 6) × (reach .left ≤ 6) × (1 ≤ reach .depth) × (reach .depth ≤ 6) × (allowance ≤ 1000000) × (resource < 16) × (has (now remaining) task ≡ true) ⌝ }
+    ensures is { λ r. ⌜ Spends (now (rows .entry)) (setsOf (now (outer .entry))) (reach .count) (λ s. let weigh = weighing (level (reach .left) s) s in triedNext weigh (order (reach .depth - 1) weigh s resource) s resource (now (b .entry)) (now (remaining .entry)) (resourcesOf held) task) allowance r ⌝ }
     ensures fair { λ r. ⌜ Fair (reach .count) 0 allowance r ⌝ }
 {
-    if !remaining[task] {
-        return Tally::Of(0, 0, allowance);
-    }
-    let best = first_greatest(rows, outer, reach, b, held, resource, task, allowance);
+    let best = first_greatest(
+        rows,
+        spans,
+        outer,
+        reach,
+        b,
+        held,
+        resource,
+        task,
+        allowance,
+    );
     let Tally::Of(next, giver, kept) = best else {
         return Tally::Exceeded;
     };
@@ -172,7 +188,17 @@ fn tried_next(
     };
     let fewer = sets::without_task(remaining, task);
     let holding = held_after(outer, held, giver);
-    let rest = largest_order(rows, outer, shorter, b, &fewer, &holding, resource, kept);
+    let rest = largest_order(
+        rows,
+        spans,
+        outer,
+        shorter,
+        b,
+        &fewer,
+        holding,
+        resource,
+        kept,
+    );
     let Tally::Of(later, _, left) = rest else {
         return Tally::Exceeded;
     };
@@ -182,16 +208,17 @@ fn tried_next(
 // The remaining tasks "in the order giving the largest sum".
 fn largest_order(
     rows: &[[usize; 4]; 12],
-    outer: &[[bool; 16]; 12],
+    spans: &[[usize; 2]; 109],
+    outer: &[u16; 12],
     reach: Reach,
     b: &[bool; 6],
     remaining: &[bool; 6],
-    held: &[bool; 16],
+    held: u16,
     resource: usize,
     allowance: u32,
 ) -> Tally
-    requires { ⌜ Ranged (now rows) (reach .count) × (reach .left ≤ 6) × (reach .depth ≤ 6) × (allowance ≤ 1000000) ⌝ }
-    ensures is { λ r. ⌜ Spends (now (rows .entry)) (now (outer .entry)) (reach .count) (λ s. order (reach .depth) (weighing (level (reach .left) s) s) s resource (now (b .entry)) (now (remaining .entry)) (now (held .entry))) allowance r ⌝ }
+    requires { ⌜ Laid (now rows) (now spans) (reach .count) × (reach .left ≤ 6) × (reach .depth ≤ 6) × (allowance ≤ 1000000) × (resource < 16) ⌝ }
+    ensures is { λ r. ⌜ Spends (now (rows .entry)) (setsOf (now (outer .entry))) (reach .count) (λ s. order (reach .depth) (weighing (level (reach .left) s) s) s resource (now (b .entry)) (now (remaining .entry)) (resourcesOf held)) allowance r ⌝ }
     ensures fair { λ r. ⌜ Fair (reach .count) 0 allowance r ⌝ }
 {
     if reach.depth == 0 {
@@ -200,7 +227,21 @@ fn largest_order(
     let mut value = 0;
     let mut kept = allowance;
     for task in 0..6usize {
-        let tried = tried_next(rows, outer, reach, b, remaining, held, resource, task, kept);
+        if !remaining[task] {
+            continue;
+        }
+        let tried = tried_next(
+            rows,
+            spans,
+            outer,
+            reach,
+            b,
+            remaining,
+            held,
+            resource,
+            task,
+            kept,
+        );
         let Tally::Of(sum, _, left) = tried else {
             return Tally::Exceeded;
         };
@@ -213,15 +254,16 @@ fn largest_order(
 // "Ordering value: the tasks outside B that have a section on c's resource, in the order giving the largest sum. Held starts as that R."
 fn ordering_value(
     rows: &[[usize; 4]; 12],
-    outer: &[[bool; 16]; 12],
+    spans: &[[usize; 2]; 109],
+    outer: &[u16; 12],
     reach: Reach,
     b: &[bool; 6],
     resource: usize,
-    entry: &[bool; 16],
+    entry: u16,
     allowance: u32,
 ) -> Tally
-    requires { ⌜ Ranged (now rows) (reach .count) × (1 ≤ reach .left) × (reach .left ≤ 6) × (allowance ≤ 1000000) ⌝ }
-    ensures is { λ r. ⌜ Spends (now (rows .entry)) (now (outer .entry)) (reach .count) (λ s. ordering (reach .left) (level (reach .left - 1) s) s (now (b .entry)) resource (now (entry .entry))) allowance r ⌝ }
+    requires { ⌜ Laid (now rows) (now spans) (reach .count) × (1 ≤ reach .left) × (reach .left ≤ 6) × (allowance ≤ 1000000) × (resource < 16) ⌝ }
+    ensures is { λ r. ⌜ Spends (now (rows .entry)) (setsOf (now (outer .entry))) (reach .count) (λ s. ordering (reach .left) (level (reach .left - 1) s) s (now (b .entry)) resource (resourcesOf entry)) allowance r ⌝ }
     ensures fair { λ r. ⌜ Fair (reach .count) 0 allowance r ⌝ }
 {
     let found = blockers(rows, reach.count, b, resource);
@@ -230,23 +272,34 @@ fn ordering_value(
         left: reach.left - 1,
         depth: reach.left,
     };
-    largest_order(rows, outer, across, b, &found, entry, resource, allowance)
+    largest_order(
+        rows,
+        spans,
+        outer,
+        across,
+        b,
+        &found,
+        entry,
+        resource,
+        allowance,
+    )
 }
 
 // "the ordering value, plus the same calculation on c's direct children, both with R and c's resource": of section c, if it stands there.
 fn sum_over(
     rows: &[[usize; 4]; 12],
-    outer: &[[bool; 16]; 12],
+    spans: &[[usize; 2]; 109],
+    outer: &[u16; 12],
     reach: Reach,
     b: &[bool; 6],
     task: usize,
     place: usize,
-    r: &[bool; 16],
+    r: u16,
     c: usize,
     allowance: u32,
 ) -> Tally
-    requires { ⌜ Ranged (now rows) (reach .count) × (c < reach .count) × (1 ≤ reach .left) × (reach .left ≤ 6) × (1 ≤ reach .depth) × (reach .depth ≤ 12) × (allowance ≤ 1000000) ⌝ }
-    ensures is { λ o. ⌜ Spends (now (rows .entry)) (now (outer .entry)) (reach .count) (λ s. sumOver (ordering (reach .left) (level (reach .left - 1) s) s (now (b .entry))) (sumsAt (reach .left) (reach .depth - 1) s (now (b .entry)) task) s task (parentOf place) (now (r .entry)) c) allowance o ⌝ }
+    requires { ⌜ Laid (now rows) (now spans) (reach .count) × (c < reach .count) × (1 ≤ reach .left) × (reach .left ≤ 6) × (1 ≤ reach .depth) × (reach .depth ≤ 12) × (allowance ≤ 1000000) ⌝ }
+    ensures is { λ o. ⌜ Spends (now (rows .entry)) (setsOf (now (outer .entry))) (reach .count) (λ s. sumOver (ordering (reach .left) (level (reach .left - 1) s) s (now (b .entry))) (sumsAt (reach .left) (reach .depth - 1) s (now (b .entry)) task) s task (parentOf place) (resourcesOf r) c) allowance o ⌝ }
     ensures fair { λ o. ⌜ Fair (reach .count) 0 allowance o ⌝ }
 {
     if !is_in(&rows[c], task, place) {
@@ -254,7 +307,7 @@ fn sum_over(
     }
     let resource = rows[c][RESOURCE];
     let wider = sets::with_resource(r, resource);
-    let own = ordering_value(rows, outer, reach, b, resource, &wider, allowance);
+    let own = ordering_value(rows, spans, outer, reach, b, resource, wider, allowance);
     let Tally::Of(ordered, _, kept) = own else {
         return Tally::Exceeded;
     };
@@ -263,7 +316,7 @@ fn sum_over(
         left: reach.left,
         depth: reach.depth - 1,
     };
-    let nested = interference_sum(rows, outer, inner, b, task, c + 1, &wider, kept);
+    let nested = interference_sum(rows, spans, outer, inner, b, task, c + 1, wider, kept);
     let Tally::Of(value, _, left) = nested else {
         return Tally::Exceeded;
     };
@@ -273,16 +326,17 @@ fn sum_over(
 // "sum over the sections c" of the task that stand directly in the section at the place.
 pub(crate) fn interference_sum(
     rows: &[[usize; 4]; 12],
-    outer: &[[bool; 16]; 12],
+    spans: &[[usize; 2]; 109],
+    outer: &[u16; 12],
     reach: Reach,
     b: &[bool; 6],
     task: usize,
     place: usize,
-    r: &[bool; 16],
+    r: u16,
     allowance: u32,
 ) -> Tally
-    requires { ⌜ Ranged (now rows) (reach .count) × (reach .left ≤ 6) × (reach .depth ≤ 12) × (allowance ≤ 1000000) ⌝ }
-    ensures is { λ o. ⌜ Spends (now (rows .entry)) (now (outer .entry)) (reach .count) (λ s. sumsAt (reach .left) (reach .depth) s (now (b .entry)) task (parentOf place) (now (r .entry))) allowance o ⌝ }
+    requires { ⌜ Laid (now rows) (now spans) (reach .count) × (reach .left ≤ 6) × (reach .depth ≤ 12) × (allowance ≤ 1000000) × (place ≤ 12) ⌝ }
+    ensures is { λ o. ⌜ Spends (now (rows .entry)) (setsOf (now (outer .entry))) (reach .count) (λ s. sumsAt (reach .left) (reach .depth) s (now (b .entry)) task (parentOf place) (resourcesOf r)) allowance o ⌝ }
     ensures fair { λ o. ⌜ Fair (reach .count) 0 allowance o ⌝ }
 {
     if reach.left == 0 {
@@ -291,11 +345,13 @@ pub(crate) fn interference_sum(
     if reach.depth == 0 {
         return Tally::Of(0, 0, allowance);
     }
-    let count = reach.count;
+    let inside = draw::in_span(place);
+    let from = spans[inside][FROM];
+    let end = spans[inside][END];
     let mut value = 0;
     let mut kept = allowance;
-    for c in 0..count {
-        let added = sum_over(rows, outer, reach, b, task, place, r, c, kept);
+    for c in from..end {
+        let added = sum_over(rows, spans, outer, reach, b, task, place, r, c, kept);
         let Tally::Of(more, _, left) = added else {
             return Tally::Exceeded;
         };

@@ -1,7 +1,7 @@
-// Sets of tasks and of resources, a test for each number. Assumes nothing.
+// Sets of tasks, a test for each number, and of resources, a bit for each. Assumes nothing.
 ghost use mathlib.Core.Path.{_≡_};
 ghost use Prim.Native.Nat.{_<_};
-ghost use Rattle.bound.specs.Sets.{with, without, joined, meets};
+ghost use Rattle.bound.specs.Sets.{with, without, joined, meets, resourcesOf};
 
 pub(crate) fn with_task(set: &[bool; 6], task: usize) -> [bool; 6]
     requires { ⌜ task < 6 ⌝ }
@@ -21,33 +21,23 @@ pub(crate) fn without_task(set: &[bool; 6], task: usize) -> [bool; 6]
     fewer
 }
 
-pub(crate) fn with_resource(set: &[bool; 16], resource: usize) -> [bool; 16]
+pub(crate) fn with_resource(set: u16, resource: usize) -> u16
     requires { ⌜ resource < 16 ⌝ }
-    ensures { λ r. ⌜ r ≡ with (now (set .entry)) resource ⌝ }
+    ensures { λ r. ⌜ resourcesOf r ≡ with (resourcesOf set) resource ⌝ }
 {
-    let mut wider = *set;
-    wider[resource] = true;
-    wider
+    (1 << resource) | set
 }
 
 // The resources that are in either set.
-pub(crate) fn joined(xs: &[bool; 16], ys: &[bool; 16]) -> [bool; 16]
-    ensures { λ r. ⌜ r ≡ joined (now (xs .entry)) (now (ys .entry)) ⌝ }
+pub(crate) fn joined(xs: u16, ys: u16) -> u16
+    ensures { λ r. ⌜ resourcesOf r ≡ joined (resourcesOf xs) (resourcesOf ys) ⌝ }
 {
-    let mut both = *xs;
-    for r in 0..16usize {
-        both[r] = xs[r] | ys[r];
-    }
-    both
+    xs | ys
 }
 
 // Whether some resource is in both sets.
-pub(crate) fn meets(xs: &[bool; 16], ys: &[bool; 16]) -> bool
-    ensures { λ r. ⌜ r ≡ meets (now (xs .entry)) (now (ys .entry)) ⌝ }
+pub(crate) fn meets(xs: u16, ys: u16) -> bool
+    ensures { λ r. ⌜ r ≡ meets (resourcesOf xs) (resourcesOf ys) ⌝ }
 {
-    let mut apart = true;
-    for r in 0..16usize {
-        apart = apart & !(xs[r] & ys[r]);
-    }
-    !apart
+    xs & ys != 0
 }

@@ -24,24 +24,39 @@ bound-spec =
     (λ c. search needs)
     (λ c κs. ranged _ _ _ (free (c .before .before .before)) _ (c .before .before .rows .ensures))
     (λ c. search needs)
+    (λ c κs. ranged _ _ _ (free (c .before .before .before .before .before .before)) _ (c .before .before .before .before .before .rows .ensures))
     (λ c. search needs)
-    (λ c. table-accepted _ _ _ (free (c .before .before .before .before .before .before)) .tasks-least)
-    (λ c κs. let past = free (c .before .before .before .before .before .before .before) in omega (arith, task-there _ _ _ past, table-accepted _ _ _ past .tasks-most))
+    (λ c. search needs)
+    (λ c. table-accepted _ _ _ (free (c .before .before .before .before .before .before .before .before .before)) .tasks-least)
+    (λ c κs. let past = free (c .before .before .before .before .before .before .before .before .before .before) in omega (arith, task-there _ _ _ past, table-accepted _ _ _ past .tasks-most))
     (λ c κs.
-    let past = free (c .before .before .before .before .before .before .before .before .before .before .before .before) in
-    (ranged _ _ _ past _ (c .before .before .before .before .before .before .before .before .before .before .before .rows .ensures), omega (arith, table-accepted _ _ _ past .tasks-most), omega arith, allowance-most _ _ _ past))
+    let spanned = c .before .before .before .before .before .before .before .before .before .before .before in
+    let drawn = spanned .before .before .before in
+    let past = free (drawn .before) in (
+      record { ranged = ranged _ _ _ past _ (drawn .rows .ensures); spanned = spanned .spans .ensures },
+      omega (arith, table-accepted _ _ _ past .tasks-most),
+      omega arith,
+      allowance-most _ _ _ past,
+      omega arith,
+    ))
     (λ c. search needs)
     (λ c. search needs)
     (λ c.
-    let past = free (c .before .before .before .before .before .before .before .before .before .before .before .before .before .before .before) in
+    let call = c .before .before in
+    let outers = call .before .before .before .before .before .before .before .before .before in
+    let drawn = outers .before .before .before .before .before .before in
+    let past = free (drawn .before) in
     answer-exceeded _ _ _ past
     (sym (c .enum-told .given .1)
-    ∙ c .before .before .interference-sum .ensures .0 _ (shown _ _ _ past _ _ (c .before .before .before .before .before .before .before .before .before .before .before .before .before .before .rows .ensures) (c .before .before .before .before .before .before .before .before .before .before .before .outers .ensures))
-    ∙ spent-is _ _ _ past _ (c .before .before .before .before .before .before .before .with-task .ensures)))
+    ∙ call .interference-sum .ensures .0 _ (shown _ _ _ past _ _ (drawn .rows .ensures) (outers .outers .ensures))
+    ∙ spent-is _ _ _ past _ (call .before .before .before .before .before .with-task .ensures)))
     (λ c. let fair = fair-of _ _ _ _ _ _ _ (c .before .found .given .1) (c .before .before .before .interference-sum .ensures .1) in omega arith)
     (λ c.
-    let past = free (c .before .before .before .before .before .before .before .before .before .before .before .before .before .before .before .before) in
+    let call = c .before .before .before in
+    let outers = call .before .before .before .before .before .before .before .before .before in
+    let drawn = outers .before .before .before .before .before .before in
+    let past = free (drawn .before) in
     answer-of _ _ _ past _ _ _
     (sym (c .before .found .given .1)
-    ∙ c .before .before .before .interference-sum .ensures .0 _ (shown _ _ _ past _ _ (c .before .before .before .before .before .before .before .before .before .before .before .before .before .before .before .rows .ensures) (c .before .before .before .before .before .before .before .before .before .before .before .before .outers .ensures))
-    ∙ spent-is _ _ _ past _ (c .before .before .before .before .before .before .before .before .with-task .ensures))))
+    ∙ call .interference-sum .ensures .0 _ (shown _ _ _ past _ _ (drawn .rows .ensures) (outers .outers .ensures))
+    ∙ spent-is _ _ _ past _ (call .before .before .before .before .before .with-task .ensures))))

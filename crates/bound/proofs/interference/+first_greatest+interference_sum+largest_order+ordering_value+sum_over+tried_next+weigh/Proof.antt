@@ -1,6 +1,6 @@
 -- The proof of the cycle of calls: the interference sum, the ordering value, and what stands between them. The measure falls with the tasks
 -- outside B, then with the depth or with the tasks left to order. Assumes nothing.
-use mathlib.Core.Path.{_≡_, sym, _∙_}
+use mathlib.Core.Path.{_≡_, sym, ap, _∙_}
 use mathlib.Core.Option.{none}
 use mathlib.Core.Logic.{⊎-elim}
 use Prim.Native.Nat.{ℕ, _+_, _-_, _*_, _<_, _≤_}
@@ -12,9 +12,11 @@ use borrow.Author.Tests.{not-true, not-false}
 use Rattle.bound.specs.declared.Sections.{Sections}
 use Rattle.bound.specs.Interference.{run, weighing, bestTurn, best, orderTurn, order, ordering, sumTurn, level}
 use Rattle.bound.specs.Spending.{sectionOf, spend}
-use Rattle.bound.specs.Drawn.{Shown, parentOf, sumsAt}
+use Rattle.bound.specs.Sets.{resourcesOf, setsOf}
+use Rattle.bound.specs.Drawn.{Shown, parentOf, sumsAt, onSpan, inSpan, fromIn, endIn}
 use Rattle.bound.proofs.Turns.{turns-end}
-use Rattle.bound.proofs.Steps.{fair-of, weigh-not, weigh-none, weigh-met, weigh-of, weigh-out, best-greater, best-stays, best-exceeds, order-goes, order-exceeds, sum-goes, sum-exceeds, tried-not, tried-out, tried-of, tried-later, sum-not, sum-of, sum-out, sum-later, best-begins, order-begins, order-ends, sum-begins, sum-alone, sum-ends, nested-is, own-is, larger-most}
+use Rattle.bound.proofs.Skips.{best-from, best-to, sum-from, sum-to}
+use Rattle.bound.proofs.Steps.{meets-at, joined-at, fair-of, weigh-not, weigh-none, weigh-met, weigh-of, weigh-out, best-greater, best-stays, best-exceeds, order-goes, order-skips, order-exceeds, sum-goes, sum-exceeds, tried-out, tried-of, tried-later, sum-not, sum-of, sum-out, sum-later, best-begins, order-begins, order-ends, sum-begins, sum-alone, sum-ends, nested-is, own-is, larger-most}
 use Rattle.bound.proofs.interference.first_greatest.Reads as first-greatest
 use Rattle.bound.proofs.interference.first_greatest.Kinds as first-greatest-kinds
 use Rattle.bound.proofs.interference.+first_greatest+interference_sum+largest_order+ordering_value+sum_over+tried_next+weigh.Lts-first_greatest as first-greatest-lts
@@ -36,6 +38,8 @@ use Rattle.bound.proofs.interference.+first_greatest+interference_sum+l
 use Rattle.bound.proofs.interference.weigh.Reads as weigh
 use Rattle.bound.proofs.interference.weigh.Kinds as weigh-kinds
 use Rattle.bound.proofs.interference.+first_greatest+interference_sum+largest_order+ordering_value+sum_over+tried_next+weigh.Lts-weigh as weigh-lts
+use Rattle.bound.proofs.draw.in_span.Reads as in-span-reads
+use Rattle.bound.proofs.draw.on_span.Reads as on-span-reads
 use Rattle.bound.proofs.interference.blockers.Reads as blockers-reads
 use Rattle.bound.proofs.interference.held_after.Reads as held-after-reads
 use Rattle.bound.proofs.interference.is_in.Reads as is-in-reads
@@ -50,25 +54,25 @@ use Rattle.bound.proofs.interference.+first_greatest+interference_sum+l
 use Rattle.bound.proofs.interference.+first_greatest+interference_sum+largest_order+ordering_value+sum_over+tried_next+weigh.Tie.{close}
 
 abbrev μ-first-greatest : Measures 4 first-greatest-kinds.ps ℕ
-μ-first-greatest κs a = a .1 .1 .0 .left * 10000 + 5000
+μ-first-greatest κs a = a .1 .1 .1 .0 .left * 10000 + 5000
 
 abbrev μ-interference-sum : Measures 4 interference-sum-kinds.ps ℕ
-μ-interference-sum κs a = a .1 .1 .0 .left * 10000 + a .1 .1 .0 .depth * 20 + 19
+μ-interference-sum κs a = a .1 .1 .1 .0 .left * 10000 + a .1 .1 .1 .0 .depth * 20 + 19
 
 abbrev μ-largest-order : Measures 5 largest-order-kinds.ps ℕ
-μ-largest-order κs a = a .1 .1 .0 .left * 10000 + 9000 + a .1 .1 .0 .depth * 20 + 19
+μ-largest-order κs a = a .1 .1 .1 .0 .left * 10000 + 9000 + a .1 .1 .1 .0 .depth * 20 + 19
 
 abbrev μ-ordering-value : Measures 4 ordering-value-kinds.ps ℕ
-μ-ordering-value κs a = a .1 .1 .0 .left * 10000 + 5
+μ-ordering-value κs a = a .1 .1 .1 .0 .left * 10000 + 5
 
 abbrev μ-sum-over : Measures 4 sum-over-kinds.ps ℕ
-μ-sum-over κs a = a .1 .1 .0 .left * 10000 + a .1 .1 .0 .depth * 20 + 10
+μ-sum-over κs a = a .1 .1 .1 .0 .left * 10000 + a .1 .1 .1 .0 .depth * 20 + 10
 
 abbrev μ-tried-next : Measures 5 tried-next-kinds.ps ℕ
-μ-tried-next κs a = a .1 .1 .0 .left * 10000 + 9000 + a .1 .1 .0 .depth * 20 + 10
+μ-tried-next κs a = a .1 .1 .1 .0 .left * 10000 + 9000 + a .1 .1 .1 .0 .depth * 20 + 10
 
 abbrev μ-weigh : Measures 4 weigh-kinds.ps ℕ
-μ-weigh κs a = a .1 .1 .0 .left * 10000 + 4000
+μ-weigh κs a = a .1 .1 .1 .0 .left * 10000 + 4000
 
 abbrev first-greatest-at : ℕ → In 4 first-greatest-kinds.ps
 first-greatest-at t = and 4 first-greatest-kinds.ps (is 4 first-greatest-kinds.ps μ-first-greatest t) first-greatest.Pre
@@ -113,40 +117,70 @@ abbrev weigh-below : ℕ → In 4 weigh-kinds.ps
 weigh-below t = and 4 weigh-kinds.ps (falls 4 weigh-kinds.ps _<_ μ-weigh t) weigh.Pre
 
 abbrev first-greatest-Inv-loop : first-greatest-lts.InvT-loop
-first-greatest-Inv-loop rows outer reach b held resource task allowance count value₀ giver₀ kept₀ i₀ value giver kept i =
-    (i ≤ count)
-    × (giver ≤ count)
+first-greatest-Inv-loop rows spans outer reach b held resource task allowance on from end value₀ giver₀ kept₀ i₀ value giver kept i =
+    (i ≤ end)
+    × (end ≡ endIn spans (onSpan task resource))
+    × (end ≤ reach .count)
+    × (reach .count ≤ 12)
+    × (giver ≤ reach .count)
     × (value + 1000000 * kept ≤ 1000000 * allowance)
-    × ((s : Sections) → Shown s rows outer count → let weigh = weighing (level (reach .left) s) s b held in
-    spend (run (bestTurn weigh s resource task) (count - i) i value (sectionOf giver)) kept ≡ spend (best weigh s resource task) allowance)
+    × ((s : Sections) → Shown s rows (setsOf outer) (reach .count) → let weigh = weighing (level (reach .left) s) s b (resourcesOf held) in
+    spend (run (bestTurn weigh s resource task) (reach .count - i) i value (sectionOf giver)) kept ≡ spend (best weigh s resource task) allowance)
 
 abbrev interference-sum-Inv-loop : interference-sum-lts.InvT-loop
-interference-sum-Inv-loop rows outer reach b task place r allowance count value₀ kept₀ c₀ value kept c =
-    (c ≤ count)
+interference-sum-Inv-loop rows spans outer reach b task place r allowance inside from end value₀ kept₀ c₀ value kept c =
+    (c ≤ end)
+    × (end ≡ endIn spans (inSpan place))
+    × (end ≤ reach .count)
+    × (reach .count ≤ 12)
     × (value + 1000000 * kept ≤ 1000000 * allowance)
-    × ((s : Sections) → Shown s rows outer count → let ordered = ordering (reach .left) (level (reach .left - 1) s) s b in
-    spend (run (sumTurn ordered (sumsAt (reach .left) (reach .depth - 1) s b task) s task (parentOf place) r) (count - c) c value none) kept
-    ≡ spend (sumsAt (reach .left) (reach .depth) s b task (parentOf place) r) allowance)
+    × ((s : Sections) → Shown s rows (setsOf outer) (reach .count) → let ordered = ordering (reach .left) (level (reach .left - 1) s) s b in
+    spend (run (sumTurn ordered (sumsAt (reach .left) (reach .depth - 1) s b task) s task (parentOf place) (resourcesOf r)) (reach .count - c) c value none) kept
+    ≡ spend (sumsAt (reach .left) (reach .depth) s b task (parentOf place) (resourcesOf r)) allowance)
 
 abbrev largest-order-Inv-loop : largest-order-lts.InvT-loop
-largest-order-Inv-loop rows outer reach b remaining held resource allowance value₀ kept₀ task₀ value kept task =
+largest-order-Inv-loop rows spans outer reach b remaining held resource allowance value₀ kept₀ task₀ value kept task =
     (task ≤ 6)
     × (value + 1000000 * kept ≤ 1000000 * allowance)
-    × ((s : Sections) → Shown s rows outer (reach .count) → let weigh = weighing (level (reach .left) s) s in
-    spend (run (orderTurn weigh (order (reach .depth - 1) weigh s resource) s resource b remaining held) (6 - task) task value none) kept
-    ≡ spend (order (reach .depth) weigh s resource b remaining held) allowance)
+    × ((s : Sections) → Shown s rows (setsOf outer) (reach .count) → let weigh = weighing (level (reach .left) s) s in
+    spend (run (orderTurn weigh (order (reach .depth - 1) weigh s resource) s resource b remaining (resourcesOf held)) (6 - task) task value none) kept
+    ≡ spend (order (reach .depth) weigh s resource b remaining (resourcesOf held)) allowance)
 
 pub +first-greatest+interference-sum+largest-order+ordering-value+sum-over+tried-next+weigh-spec : {M : Type 1} → statement M
 +first-greatest+interference-sum+largest-order+ordering-value+sum-over+tried-next+weigh-spec =
     close μ-first-greatest μ-interference-sum μ-largest-order μ-ordering-value μ-sum-over μ-tried-next μ-weigh
     (λ t. first-greatest-lts.spec
-    (weigh-below t, weigh.Post)
+    (on-span-reads.Asked, on-span-reads.Learnt, weigh-below t, weigh.Post)
     (first-greatest-at t)
     first-greatest.Post
     first-greatest-Inv-loop
-    (λ rows outer reach b held resource task allowance count value₀ giver₀ kept₀ i₀ value giver kept i. count - i)
-    (λ c. (omega arith, omega arith, omega arith, λ s shown. best-begins _ s _ _ _ _ (shown .drawn .count-is)))
-    (λ c κs. let start = c .before .before in (omega (arith, start .pre .0), (start .pre .1 .0, omega arith, omega arith, omega arith, omega arith)))
+    (λ rows spans outer reach b held resource task allowance on from end value₀ giver₀ kept₀ i₀ value giver kept i. end - i)
+    (λ c κs. (c .pre .1 .1, c .pre .1 .4))
+    (λ c. search needs)
+    (λ c. search needs)
+    (λ c. search needs)
+    (λ c. search needs)
+    (λ c. search needs)
+    (λ c. search needs)
+    (λ c.
+    let on = c .before .before in
+    let start = on .before in
+    let spanned = start .pre .1 .0 .spanned in
+    let from-is = ap (fromIn (start .args .spans .now)) (on .on-span .ensures .0) in
+    let end-is = ap (endIn (start .args .spans .now)) (on .on-span .ensures .0) in (
+      omega (arith, spanned .in-order (on .on-span .result)),
+      end-is,
+      spanned .end-most (on .on-span .result),
+      start .pre .1 .0 .ranged .count-most,
+      omega arith,
+      omega arith,
+      λ s shown.
+          best-from s _ _ _ (shown .drawn) spanned _ _ _ _ _ from-is ∙ best-begins _ s _ _ _ _ (shown .drawn .count-is),
+    ))
+    (λ c κs.
+    let start = c .before .before .before .before .before in
+    let facts = start .pre .1 in
+    (omega (arith, start .pre .0), (facts .0, facts .1, omega arith, omega (arith, facts .2), omega (arith, facts .3))))
     (λ c. search needs)
     (λ c. search needs)
     (λ c.
@@ -154,7 +188,7 @@ pub +first-greatest+interference-sum+largest-order+ordering-value+sum-over+tried
     let at-loop = call .before .before in (
       λ s shown.
           best-exceeds _ _ _ _ _ _ _ _ _ (at-loop .loop .giver) _ (omega arith) (sym (c .enum-told .given .1) ∙ call .weigh .ensures .0 s shown)
-          ∙ at-loop .loop .inv .3 s shown,
+          ∙ at-loop .loop .inv .6 s shown,
       tt,
     ))
     (λ c. search needs)
@@ -168,34 +202,42 @@ pub +first-greatest+interference-sum+largest-order+ordering-value+sum-over+tried
     ⊎-elim
     (λ w. (
       omega arith,
+      at-loop .loop .inv .1,
+      omega arith,
+      omega arith,
       omega arith,
       omega arith,
       λ s shown.
           best-greater _ _ _ _ _ _ _ _ _ (at-loop .loop .giver) _ (omega arith) _ _ _ _ _
           (sym (known .weighed .given .1) ∙ call .weigh .ensures .0 s shown) (w .0 .taken) (w .1) (w .2)
-          ∙ at-loop .loop .inv .3 s shown,
+          ∙ at-loop .loop .inv .6 s shown,
     ))
     (λ w. (
+      omega arith,
+      at-loop .loop .inv .1,
+      omega arith,
       omega arith,
       omega arith,
       omega arith,
       λ s shown.
           best-stays _ _ _ _ _ _ _ _ _ (at-loop .loop .giver) _ (omega arith) _ _ _ _ _
           (sym (known .weighed .given .1) ∙ call .weigh .ensures .0 s shown) (w .0 .left) (w .1) (w .2)
-          ∙ at-loop .loop .inv .3 s shown,
+          ∙ at-loop .loop .inv .6 s shown,
     ))
     (c .if1 .came))
-    (λ c. (
+    (λ c.
+    let at-loop = c .before in
+    let start = at-loop .before .before .before .before in (
       λ s shown.
-          sym (turns-end _ _ _ _ _ _ (omega arith) (omega arith)) ∙ c .before .loop .inv .3 s shown,
+          sym (best-to s _ _ _ (shown .drawn) (start .pre .1 .0 .spanned) _ _ _ _ _ _ _ _ (at-loop .loop .inv .1) (omega arith) (omega arith)) ∙ at-loop .loop .inv .6 s shown,
       record { most = omega arith; giver-most = omega arith },
     )))
     (λ t. interference-sum-lts.spec
-    (sum-over-below t, sum-over.Post)
+    (in-span-reads.Asked, in-span-reads.Learnt, sum-over-below t, sum-over.Post)
     (interference-sum-at t)
     interference-sum.Post
     interference-sum-Inv-loop
-    (λ rows outer reach b task place r allowance count value₀ kept₀ c₀ value kept c. count - c)
+    (λ rows spans outer reach b task place r allowance inside from end value₀ kept₀ c₀ value kept c. end - c)
     (λ c. (
       λ s shown.
           sum-alone s _ _ _ _ _ _ _ (c .if1 .taken),
@@ -206,19 +248,43 @@ pub +first-greatest+interference-sum+largest-order+ordering-value+sum-over+tried
           sum-ends s _ _ _ _ _ _ _ (c .if2 .taken),
       record { most = omega arith; giver-most = omega arith },
     ))
-    (λ c. (omega arith, omega arith, λ s shown. sum-begins s _ _ _ _ _ _ _ _ (c .before .before .if1 .left) (c .if2 .left) (shown .drawn .count-is)))
-    (λ c κs.
-    let deep = c .before .before .if2 .left in
-    let some-left = c .before .before .before .before .if1 .left in
-    let start = c .before .before .before .before .before .before in
-    (omega (arith, start .pre .0), (start .pre .1 .0, omega arith, omega (arith, some-left), omega arith, omega (arith, deep), omega arith, omega arith)))
+    (λ c κs. c .before .before .before .before .pre .1 .4)
+    (λ c. search needs)
+    (λ c. search needs)
+    (λ c. search needs)
+    (λ c. search needs)
     (λ c. search needs)
     (λ c. search needs)
     (λ c.
-    let call = c .before .before in (
+    let inside = c .before .before in
+    let deep = inside .before in
+    let start = deep .before .before .before .before in
+    let spanned = start .pre .1 .0 .spanned in
+    let from-is = ap (fromIn (start .args .spans .now)) (inside .in-span .ensures .0) in
+    let end-is = ap (endIn (start .args .spans .now)) (inside .in-span .ensures .0) in (
+      omega (arith, spanned .in-order (inside .in-span .result)),
+      end-is,
+      spanned .end-most (inside .in-span .result),
+      start .pre .1 .0 .ranged .count-most,
+      omega arith,
+      λ s shown.
+          sum-from s _ _ _ (shown .drawn) spanned _ _ _ _ _ _ _ from-is
+          ∙ sum-begins s _ _ _ _ _ _ _ _ (deep .before .before .if1 .left) (deep .if2 .left) (shown .drawn .count-is),
+    ))
+    (λ c κs.
+    let deep = c .before .before .before .before .before in
+    let some-left = deep .before .before .if1 .left in
+    let start = deep .before .before .before .before in
+    let facts = start .pre .1 in
+    (omega (arith, start .pre .0), (facts .0, omega arith, omega (arith, some-left), omega (arith, facts .1), omega (arith, deep .if2 .left), omega (arith, facts .2), omega (arith, facts .3))))
+    (λ c. search needs)
+    (λ c. search needs)
+    (λ c.
+    let call = c .before .before in
+    let at-loop = call .before .before in (
       λ s shown.
           sum-exceeds _ _ _ _ _ _ _ _ _ _ (omega arith) (sym (c .enum-told .given .1) ∙ call .sum-over .ensures .0 s shown)
-          ∙ call .before .before .loop .inv .2 s shown,
+          ∙ at-loop .loop .inv .5 s shown,
       tt,
     ))
     (λ c. let fair = fair-of _ _ _ _ _ _ _ (c .before .added .given .1) (c .before .before .before .sum-over .ensures .1) in record { fits = omega arith })
@@ -226,16 +292,22 @@ pub +first-greatest+interference-sum+largest-order+ordering-value+sum-over+tried
     (λ c. search needs)
     (λ c.
     let call = c .before .before .before in
+    let at-loop = call .before .before in
     let fair = fair-of _ _ _ _ _ _ _ (c .before .added .given .1) (call .sum-over .ensures .1) in (
+      omega arith,
+      at-loop .loop .inv .1,
+      omega arith,
       omega arith,
       omega arith,
       λ s shown.
           sum-goes _ _ _ _ _ _ _ _ _ _ (omega arith) _ _ _ (sym (c .before .added .given .1) ∙ call .sum-over .ensures .0 s shown)
-          ∙ call .before .before .loop .inv .2 s shown,
+          ∙ at-loop .loop .inv .5 s shown,
     ))
-    (λ c. (
+    (λ c.
+    let at-loop = c .before in
+    let start = at-loop .before .before .before .before .before .before .before .before in (
       λ s shown.
-          sym (turns-end _ _ _ _ 0 _ (omega arith) (omega arith)) ∙ c .before .loop .inv .2 s shown,
+          sym (sum-to s _ _ _ (shown .drawn) (start .pre .1 .0 .spanned) _ _ _ _ _ _ _ _ _ (at-loop .loop .inv .1) (omega arith) (omega arith)) ∙ at-loop .loop .inv .5 s shown,
       record { most = omega arith; giver-most = omega arith },
     )))
     (λ t. largest-order-lts.spec
@@ -243,24 +315,36 @@ pub +first-greatest+interference-sum+largest-order+ordering-value+sum-over+tried
     (largest-order-at t)
     largest-order.Post
     largest-order-Inv-loop
-    (λ rows outer reach b remaining held resource allowance value₀ kept₀ task₀ value kept task. 6 - task)
+    (λ rows spans outer reach b remaining held resource allowance value₀ kept₀ task₀ value kept task. 6 - task)
     (λ c. (
       λ s shown.
           order-ends _ _ _ _ _ _ _ _ (c .if1 .taken),
       record { most = omega arith; giver-most = omega arith },
     ))
     (λ c. (omega arith, omega arith, λ s shown. order-begins _ _ _ _ _ _ _ _ (c .if1 .left)))
-    (λ c κs.
-    let some-left = c .before .before .if1 .left in
-    let start = c .before .before .before .before in
-    (omega (arith, start .pre .0), (start .pre .1 .0, omega arith, omega arith, omega (arith, some-left), omega arith, omega arith)))
+    (λ c. search needs)
     (λ c. search needs)
     (λ c. search needs)
     (λ c.
-    let call = c .before .before in (
+    let at-loop = c .before .before .before in (
+      omega arith,
+      at-loop .loop .inv .1,
+      λ s shown.
+          order-skips _ _ s _ _ _ _ _ _ _ _ (omega arith) (not-true _ (c .if2 .taken)) ∙ at-loop .loop .inv .2 s shown,
+    ))
+    (λ c κs.
+    let deep = c .before .before .before .before in
+    let start = deep .before .before in
+    let facts = start .pre .1 in
+    (omega (arith, start .pre .0), (facts .0, omega arith, omega (arith, facts .1), omega (arith, deep .if1 .left), omega (arith, facts .2), omega (arith, facts .3), facts .4, not-false _ (c .if2 .left))))
+    (λ c. search needs)
+    (λ c. search needs)
+    (λ c.
+    let call = c .before .before in
+    let at-loop = call .before .before .before .before in (
       λ s shown.
           order-exceeds _ _ _ _ _ _ _ _ _ _ _ (omega arith) (sym (c .enum-told .given .1) ∙ call .tried-next .ensures .0 s shown)
-          ∙ call .before .before .loop .inv .2 s shown,
+          ∙ at-loop .loop .inv .2 s shown,
       tt,
     ))
     (λ c κs. search needs)
@@ -269,7 +353,7 @@ pub +first-greatest+interference-sum+largest-order+ordering-value+sum-over+tried
     (λ c.
     let known = c .before .before in
     let call = known .before .before in
-    let at-loop = call .before .before in
+    let at-loop = call .before .before .before .before in
     let fair = fair-of _ _ _ _ _ _ _ (known .tried .given .1) (call .tried-next .ensures .1) in (
       omega arith,
       larger-most (at-loop .loop .value) (known .tried .given .0 .0) _ _ _ (c .larger .ensures) (omega arith) (omega arith),
@@ -287,11 +371,11 @@ pub +first-greatest+interference-sum+largest-order+ordering-value+sum-over+tried
     (blockers-reads.Asked, blockers-reads.Learnt, largest-order-below t, largest-order.Post)
     (ordering-value-at t)
     ordering-value.Post
-    (λ c κs. c .pre .1 .0)
+    (λ c κs. c .pre .1 .0 .ranged)
     (λ c. search needs)
     (λ c κs.
     let start = c .before .before .before in
-    (omega (arith, start .pre .0), (start .pre .1 .0, omega arith, omega arith, omega arith)))
+    (omega (arith, start .pre .0), (start .pre .1 .0, omega arith, omega arith, omega arith, start .pre .1 .4)))
     (λ c. (
       λ s shown.
           c .largest-order .ensures .0 s shown ∙ own-is _ _ s _ _ _ _ _ (c .before .before .before .blockers .ensures s (shown .drawn)),
@@ -312,15 +396,16 @@ pub +first-greatest+interference-sum+largest-order+ordering-value+sum-over+tried
     (λ c. search needs)
     (λ c. search needs)
     (λ c. search needs)
-    (λ c κs. let start = c .before .before .before .before in omega (arith, start .pre .1 .0 .resource-most (start .args .c) (start .pre .1 .1)))
+    (λ c κs. let start = c .before .before .before .before in omega (arith, start .pre .1 .0 .ranged .resource-most (start .args .c) (start .pre .1 .1)))
     (λ c κs.
-    let start = c .before .before .before .before .before .before in
-    (omega (arith, start .pre .0), (start .pre .1 .0, omega arith, omega arith, omega arith)))
+    let start = c .before .before .before .before .before in
+    let facts = start .pre .1 in
+    (omega (arith, start .pre .0), (facts .0, omega arith, omega arith, omega arith, facts .0 .ranged .resource-most (start .args .c) (facts .1))))
     (λ c. search needs)
     (λ c. search needs)
     (λ c.
     let own = c .before .before in
-    let wide = own .before .before in
+    let wide = own .before in
     let inside = wide .before .before in
     let test = inside .before in
     let start = test .before .before in (
@@ -332,42 +417,42 @@ pub +first-greatest+interference-sum+largest-order+ordering-value+sum-over+tried
     (λ c. search needs)
     (λ c. search needs)
     (λ c κs.
-    let own = c .before .before .before .before .before in
-    let start = own .before .before .before .before .before .before .before in
-    let fair = fair-of _ _ _ _ _ _ _ (c .before .before .before .own .given .1) (own .ordering-value .ensures .1) in
+    let own = c .before .before .before .before in
+    let start = own .before .before .before .before .before .before in
+    let fair = fair-of _ _ _ _ _ _ _ (c .before .before .own .given .1) (own .ordering-value .ensures .1) in
     let facts = start .pre .1 in
-    (omega (arith, start .pre .0), (facts .0, omega (arith, facts), omega (arith, facts), omega (arith, facts))))
+    (omega (arith, start .pre .0), (facts .0, omega (arith, facts), omega (arith, facts), omega (arith, facts), omega (arith, facts .1, facts .0 .ranged .count-most))))
     (λ c. search needs)
     (λ c. search needs)
     (λ c.
-    let own = c .before .before .before .before .before .before .before .before in
-    let wide = own .before .before in
+    let own = c .before .before .before .before .before .before .before in
+    let wide = own .before in
     let inside = wide .before .before in
     let test = inside .before in
     let start = test .before .before in (
       λ s shown.
           sum-later s _ _ _ shown _ _ _ _ _ _ _ (start .pre .1 .1) _ (test .is-in .ensures) (not-false _ (inside .if1 .left)) _ (wide .with-resource .ensures) _ _ _
-          (sym (c .before .before .before .before .before .before .own .given .1) ∙ own .ordering-value .ensures .0 s shown)
+          (sym (c .before .before .before .before .before .own .given .1) ∙ own .ordering-value .ensures .0 s shown)
           (sym (c .enum-told2 .given .1) ∙ c .before .before .interference-sum .ensures .0 s shown),
       tt,
     ))
     (λ c.
-    let own = c .before .before .before .before .before .before .before .before .before in
-    let facts = own .before .before .before .before .before .before .before .pre .1 in
-    let fair = fair-of _ _ _ _ _ _ _ (c .before .before .before .before .before .before .before .own .given .1) (own .ordering-value .ensures .1) in
+    let own = c .before .before .before .before .before .before .before .before in
+    let facts = own .before .before .before .before .before .before .pre .1 in
+    let fair = fair-of _ _ _ _ _ _ _ (c .before .before .before .before .before .before .own .given .1) (own .ordering-value .ensures .1) in
     let more = fair-of _ _ _ _ _ _ _ (c .before .nested .given .1) (c .before .before .before .interference-sum .ensures .1) in
     record { fits = omega (arith, facts) })
     (λ c.
-    let own = c .before .before .before .before .before .before .before .before .before in
-    let wide = own .before .before in
+    let own = c .before .before .before .before .before .before .before .before in
+    let wide = own .before in
     let inside = wide .before .before in
     let test = inside .before in
     let start = test .before .before in
-    let fair = fair-of _ _ _ _ _ _ _ (c .before .before .before .before .before .before .before .own .given .1) (own .ordering-value .ensures .1) in
+    let fair = fair-of _ _ _ _ _ _ _ (c .before .before .before .before .before .before .own .given .1) (own .ordering-value .ensures .1) in
     let more = fair-of _ _ _ _ _ _ _ (c .before .nested .given .1) (c .before .before .before .interference-sum .ensures .1) in (
       λ s shown.
           sum-of s _ _ _ shown _ _ _ _ _ _ _ (start .pre .1 .1) _ (test .is-in .ensures) (not-false _ (inside .if1 .left)) _ (wide .with-resource .ensures) _ _ _ _ _ _
-          (sym (c .before .before .before .before .before .before .before .own .given .1) ∙ own .ordering-value .ensures .0 s shown)
+          (sym (c .before .before .before .before .before .before .own .given .1) ∙ own .ordering-value .ensures .0 s shown)
           (sym (c .before .nested .given .1) ∙ c .before .before .before .interference-sum .ensures .0 s shown),
       record { most = omega arith; giver-most = omega arith },
     )))
@@ -375,19 +460,13 @@ pub +first-greatest+interference-sum+largest-order+ordering-value+sum-over+tried
     (first-greatest-below t, first-greatest.Post, without-task-reads.Asked, without-task-reads.Learnt, held-after-reads.Asked, held-after-reads.Learnt, largest-order-below t, largest-order.Post)
     (tried-next-at t)
     tried-next.Post
-    (λ c. search needs)
-    (λ c. (
-      λ s shown.
-          tried-not s _ _ _ shown _ _ _ _ _ _ _ _ (not-true _ (c .if1 .taken)),
-      record { most = omega arith; giver-most = omega arith },
-    ))
-    (λ c κs. let start = c .before .before in (omega (arith, start .pre .0), (start .pre .1 .0, omega arith, omega arith, omega arith)))
+    (λ c κs. (omega (arith, c .pre .0), (c .pre .1 .0, omega arith, omega arith, omega arith, c .pre .1 .6)))
     (λ c. search needs)
     (λ c. search needs)
     (λ c.
     let best = c .before .before in (
       λ s shown.
-          tried-out s _ _ _ shown _ _ _ _ _ _ _ _ (not-false _ (best .before .if1 .left)) (sym (c .enum-told .given .1) ∙ best .first-greatest .ensures .0 s shown),
+          tried-out s _ _ _ shown _ _ _ _ _ _ _ _ (best .before .pre .1 .7) (sym (c .enum-told .given .1) ∙ best .first-greatest .ensures .0 s shown),
       tt,
     ))
     (λ c. search needs)
@@ -395,23 +474,23 @@ pub +first-greatest+interference-sum+largest-order+ordering-value+sum-over+tried
     (λ c κs.
     let best = c .before .before .before .before .before in
     let fair = fair-of _ _ _ _ _ _ _ (c .before .before .before .best .given .1) (best .first-greatest .ensures .1) in
-    omega (arith, best .before .before .before .pre .1 .0 .count-most))
+    omega (arith, best .before .pre .1 .0 .ranged .count-most))
     (λ c κs.
-    let best = c .before .before .before .before .before .before .before .before in
-    let start = best .before .before .before in
-    let fair = fair-of _ _ _ _ _ _ _ (c .before .before .before .before .before .before .best .given .1) (best .first-greatest .ensures .1) in
+    let best = c .before .before .before .before .before .before .before in
+    let start = best .before in
+    let fair = fair-of _ _ _ _ _ _ _ (c .before .before .before .before .before .best .given .1) (best .first-greatest .ensures .1) in
     let facts = start .pre .1 in
-    (omega (arith, start .pre .0), (facts .0, omega (arith, facts), omega (arith, facts), omega (arith, facts))))
+    (omega (arith, start .pre .0), (facts .0, omega (arith, facts), omega (arith, facts), omega (arith, facts), facts .6)))
     (λ c. search needs)
     (λ c. search needs)
     (λ c.
     let call = c .before .before in
-    let sets = call .before .before .before in
+    let sets = call .before .before in
     let known = sets .before .before .before .before in
     let best = known .before .before in
     let fair = fair-of _ _ _ _ _ _ _ (known .best .given .1) (best .first-greatest .ensures .1) in (
       λ s shown.
-          tried-later s _ _ _ shown _ _ _ _ _ _ _ _ (not-false _ (best .before .if1 .left)) _ _ _
+          tried-later s _ _ _ shown _ _ _ _ _ _ _ _ (best .before .pre .1 .7) _ _ _
           (sym (known .best .given .1) ∙ best .first-greatest .ensures .0 s shown) (fair .giver-most) _
           (sets .before .without-task .ensures) _ (sets .held-after .ensures)
           (sym (c .enum-told2 .given .1) ∙ call .largest-order .ensures .0 s shown),
@@ -419,22 +498,22 @@ pub +first-greatest+interference-sum+largest-order+ordering-value+sum-over+tried
     ))
     (λ c.
     let call = c .before .before .before in
-    let sets = call .before .before .before in
+    let sets = call .before .before in
     let known = sets .before .before .before .before in
     let best = known .before .before in
     let fair = fair-of _ _ _ _ _ _ _ (known .best .given .1) (best .first-greatest .ensures .1) in
     let more = fair-of _ _ _ _ _ _ _ (c .before .rest .given .1) (call .largest-order .ensures .1) in
-    let facts = best .before .before .before .pre .1 in
+    let facts = best .before .pre .1 in
     record { fits = omega (arith, facts) })
     (λ c.
     let call = c .before .before .before in
-    let sets = call .before .before .before in
+    let sets = call .before .before in
     let known = sets .before .before .before .before in
     let best = known .before .before in
     let fair = fair-of _ _ _ _ _ _ _ (known .best .given .1) (best .first-greatest .ensures .1) in
     let more = fair-of _ _ _ _ _ _ _ (c .before .rest .given .1) (call .largest-order .ensures .1) in (
       λ s shown.
-          tried-of s _ _ _ shown _ _ _ _ _ _ _ _ (not-false _ (best .before .if1 .left)) _ _ _
+          tried-of s _ _ _ shown _ _ _ _ _ _ _ _ (best .before .pre .1 .7) _ _ _
           (sym (known .best .given .1) ∙ best .first-greatest .ensures .0 s shown) (fair .giver-most) _
           (sets .before .without-task .ensures) _ (sets .held-after .ensures)
           _ _ _ (sym (c .before .rest .given .1) ∙ call .largest-order .ensures .0 s shown),
@@ -463,10 +542,12 @@ pub +first-greatest+interference-sum+largest-order+ordering-value+sum-over+tried
     (λ c κs. search needs)
     (λ c.
     let some = c .before .before .before in
-    let on = some .before in (
+    let on = some .before in
+    let start = on .before .before .before in
+    let within : start .args .i < 12 = omega (arith, start .pre .1 .2, start .pre .1 .0 .ranged .count-most) in (
       λ s shown.
           weigh-met s _ _ _ shown _ _ _ _ _ _ _ (omega arith) _ (on .before .is-on .ensures) (not-false _ (on .if1 .left)) (some .if2 .left) _
-          (c .before .meets .ensures) (c .if3 .taken),
+          (meets-at _ (start .args .i) _ _ within (c .before .meets .ensures)) (c .if3 .taken),
       record { most = omega arith; giver-most = omega arith },
     ))
     (λ c κs. search needs)
@@ -475,23 +556,24 @@ pub +first-greatest+interference-sum+largest-order+ordering-value+sum-over+tried
     (λ c κs. search needs)
     (λ c. search needs)
     (λ c κs.
-    let start = c .before .before .before .before .before .before .before .before .before .before .before .before in
+    let start = c .before .before .before .before .before .before .before .before .before .before .before in
     let facts = start .pre .1 in
-    (omega (arith, start .pre .0), (facts .0, omega (arith, facts), omega arith, omega (arith, facts))))
+    (omega (arith, start .pre .0), (facts .0, omega (arith, facts), omega arith, omega (arith, facts), omega (arith, facts .2, facts .0 .ranged .count-most))))
     (λ c. search needs)
     (λ c. search needs)
     (λ c.
     let call = c .before .before in
-    let sets = call .before .before .before in
+    let sets = call .before .before in
     let wide = sets .before .before in
     let apart = wide .before in
     let some = apart .before .before .before in
     let on = some .before in
-    let start = on .before .before .before in (
+    let start = on .before .before .before in
+    let within : start .args .i < 12 = omega (arith, start .pre .1 .2, start .pre .1 .0 .ranged .count-most) in (
       λ s shown.
           weigh-out s _ _ _ shown _ _ _ _ _ _ _ (start .pre .1 .2) _ (on .before .is-on .ensures) (not-false _ (on .if1 .left)) (some .if2 .left) _
-          (apart .before .meets .ensures) (apart .if3 .left) _
-          (nested-is _ s (start .args .b .now) _ _ (start .args .i) _ _ _ (wide .with-task .ensures) (sets .joined .ensures))
+          (meets-at _ (start .args .i) _ _ within (apart .before .meets .ensures)) (apart .if3 .left) _
+          (nested-is _ s (start .args .b .now) _ _ (start .args .i) _ _ _ (wide .with-task .ensures) (joined-at _ (start .args .i) _ _ within (sets .joined .ensures)))
           (sym (c .enum-told .given .1) ∙ call .interference-sum .ensures .0 s shown),
       tt,
     ))
@@ -500,26 +582,27 @@ pub +first-greatest+interference-sum+largest-order+ordering-value+sum-over+tried
     (λ c. search needs)
     (λ c.
     let call = c .before .before .before .before in
-    let start = call .before .before .before .before .before .before .before .before .before .before .before .before .before in
+    let start = call .before .before .before .before .before .before .before .before .before .before .before .before in
     let more = fair-of _ _ _ _ _ _ _ (c .before .before .nested .given .1) (call .interference-sum .ensures .1) in
     let facts = start .pre .1 in
-    let length = facts .0 .length-most _ (facts .2) in
+    let length = facts .0 .ranged .length-most _ (facts .2) in
     record { fits = omega (arith, facts) })
     (λ c.
     let call = c .before .before .before .before in
-    let sets = call .before .before .before in
+    let sets = call .before .before in
     let wide = sets .before .before in
     let apart = wide .before in
     let some = apart .before .before .before in
     let on = some .before in
     let start = on .before .before .before in
+    let within : start .args .i < 12 = omega (arith, start .pre .1 .2, start .pre .1 .0 .ranged .count-most) in
     let more = fair-of _ _ _ _ _ _ _ (c .before .before .nested .given .1) (call .interference-sum .ensures .1) in
     let facts = start .pre .1 in
-    let length = facts .0 .length-most _ (facts .2) in (
+    let length = facts .0 .ranged .length-most _ (facts .2) in (
       λ s shown.
           weigh-of s _ _ _ shown _ _ _ _ _ _ _ (start .pre .1 .2) _ (on .before .is-on .ensures) (not-false _ (on .if1 .left)) (some .if2 .left) _
-          (apart .before .meets .ensures) (apart .if3 .left) _
-          (nested-is _ s (start .args .b .now) _ _ (start .args .i) _ _ _ (wide .with-task .ensures) (sets .joined .ensures))
+          (meets-at _ (start .args .i) _ _ within (apart .before .meets .ensures)) (apart .if3 .left) _
+          (nested-is _ s (start .args .b .now) _ _ (start .args .i) _ _ _ (wide .with-task .ensures) (joined-at _ (start .args .i) _ _ within (sets .joined .ensures)))
           _ _ _ (sym (c .before .before .nested .given .1) ∙ call .interference-sum .ensures .0 s shown),
       record { most = omega (arith, facts, some .if2 .left); giver-most = omega arith },
     )))
