@@ -3,7 +3,7 @@ use mathlib.Core.Path.{_≡_, refl, sym, ap, ap₂, _∙_}
 use mathlib.Core.Bool.{Bool, true, false, not, _&&_, _||_, true≢false}
 use mathlib.Core.List.{List, []}
 use mathlib.Core.Logic.{_⊎_, inl, inr, ⊎-elim}
-use Prim.Native.Nat.{ℕ, zero, suc, _+_, _*_, _/_, _%_, _^_, _<_, _≤_, min, max}
+use Prim.Native.Nat.{ℕ, zero, suc, _+_, _*_, _/_, _%_, _^_, _<_, min, max}
 use native.Mathlib.Nat.{mod-lt, div-add-mod', div-one}
 use native.Mathlib.Numerals.{add-one}
 use native.Mathlib.Omega.{arith}
@@ -14,10 +14,10 @@ use lib.ListN.{length, getD, set, replicate, length-set}
 use lib.Pow.{shr-shr, shr-lt}
 use lib.Seq.{ext-getD}
 use borrow.Author.Tests.{eqb-true, eq-eqb}
-use Rattle.laws.specs.Tests.{if_then_else_, _iff_}
+use Rattle.laws.specs.Tests.{_iff_}
 use Rattle.laws.specs.Loops.{allTo, setTo}
-use Rattle.laws.proofs.All.{all-at, all-each, all-ext}
-use Rattle.laws.proofs.Cases.{split, tests-same, unheld-fails}
+use Rattle.laws.proofs.All.{all-at, all-ext}
+use Rattle.laws.proofs.Cases.{split, tests-same}
 use Rattle.laws.proofs.Lists.{getD-set}
 use Rattle.laws.proofs.Set.{set-at, length-setTo}
 use Rattle.bound.specs.Sets.{Resources, noResource, has, with, inEither, joined, notInBoth, meets, inMask, resourcesOf, setAt, setsOf}

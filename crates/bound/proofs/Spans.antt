@@ -1,19 +1,14 @@
 -- Spans: each section that is drawn widens its two. Assumes nothing.
-use mathlib.Core.Path.{_≡_, refl, sym, ap, _∙_}
-use mathlib.Core.Bool.{true, false}
+use mathlib.Core.Path.{_≡_, refl, _∙_}
 use mathlib.Core.List.{List, []}
-use mathlib.Core.Logic.{_⊎_, inl, inr, ⊎-elim}
-use mathlib.Core.Option.{Option, none}
+use mathlib.Core.Logic.{⊎-elim}
 use Prim.Native.Nat.{ℕ, zero, suc, _+_, _-_, _<_, _≤_}
-use native.Mathlib.Nat.{zero-add}
-use native.Mathlib.Numerals.{add-one}
 use native.Mathlib.Omega.{arith}
 use lib.Dec.{eqb}
 use lib.ListN.{length, getD, set, replicate, length-set}
 use lib.Seq.{getD-set-same, getD-set-other}
 use borrow.Author.Tests.{eqb-true, eqb-false}
-use Rattle.laws.specs.Tests.{if_then_else_}
-use Rattle.laws.proofs.Cases.{split, unheld-fails, and-left, and-right}
+use Rattle.laws.proofs.Cases.{split}
 use Rattle.laws.proofs.Fold.{last-or-below}
 use Rattle.bound.specs.Drawn.{Rows, Spans, taskIn, resourceIn, placeIn, onSpan, inSpan, fromIn, endIn, widened, Covers, Spanned, Ranged}
 

@@ -1,7 +1,7 @@
 -- A turn of each loop that the code has: of one that tests all, and of one that spends an allowance. Assumes nothing.
 use mathlib.Core.Path.{_≡_, refl, sym, ap, _∙_}
 use mathlib.Core.Bool.{Bool, _&&_}
-use mathlib.Core.Option.{Option, none, some}
+use mathlib.Core.Option.{Option, none}
 use Prim.Native.Nat.{ℕ, zero, suc, _+_, _-_, _<_, _≤_}
 use native.Mathlib.Numerals.{add-one}
 use native.Mathlib.Omega.{arith}
@@ -20,10 +20,6 @@ all-turn p i b c e h = rw (add-one, e) (ap (λ x. x && p i) h)
 
 pub all-turns : (p : ℕ → Bool) (i n : ℕ) (b : Bool) → i ≤ n → n ≤ i → b ≡ allTo i p → b ≡ allTo n p
 all-turns p = turns-done (λ j. allTo j p)
-
-pub section-place : (o : Option ℕ) → sectionOf (placeOf o) ≡ o
-section-place none = refl
-section-place (some i) = refl
 
 pub place-section : (n : ℕ) → placeOf (sectionOf n) ≡ n
 place-section zero = refl

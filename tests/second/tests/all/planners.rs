@@ -1,10 +1,11 @@
 //! What the proved program `bounds` and the proved examples `bound_vectors` are stored to print,
-//! line by line against this program's own answers.
+//! line by line against this program's own answers; and the run that goes above the bound.
 //!
 //! Assumes the planners' text form of `docs/BOUNDS.md`, which is read here a second time.
 
 use second::bound::{bound, Section, SectionTable};
 use second::refusal::Refusal;
+use second::replay::replay;
 use second::state::{ResourceNumber, TaskNumber};
 use std::fs;
 use std::path::Path;
@@ -115,11 +116,16 @@ fn answer(table: &SectionTable, task: u16, allowance: u32) -> String {
     }
 }
 
-fn stored(name: &str) -> String {
+/// A file of the repository.
+fn stored_bytes(name: &str) -> Vec<u8> {
     let path = Path::new(env!("CARGO_MANIFEST_DIR"))
-        .join("../../crates")
+        .join("../..")
         .join(name);
-    fs::read_to_string(&path).unwrap_or_else(|error| panic!("{}: {error}", path.display()))
+    fs::read(&path).unwrap_or_else(|error| panic!("{}: {error}", path.display()))
+}
+
+fn stored(name: &str) -> String {
+    String::from_utf8(stored_bytes(name)).expect("a text")
 }
 
 fn assert_lines(told: &str, expected: &[String]) {
@@ -131,8 +137,11 @@ fn assert_lines(told: &str, expected: &[String]) {
 
 #[test]
 fn the_program_bounds_prints_what_this_program_finds() {
-    let told = Told::read(&stored("bounds/stdin"));
-    let allowance = stored("bounds/args").trim().parse().expect("a number");
+    let told = Told::read(&stored("crates/bounds/stdin"));
+    let allowance = stored("crates/bounds/args")
+        .trim()
+        .parse()
+        .expect("a number");
     assert_eq!((told.lost_at, told.refusal()), (None, None));
     let mut lines: Vec<String> = (0..told.table.tasks)
         .map(|task| format!("task {task} {}", answer(&told.table, task, allowance)))
@@ -144,7 +153,7 @@ fn the_program_bounds_prints_what_this_program_finds() {
         })
         .collect();
     lines.push(WARNING.to_string());
-    assert_lines(&stored("bounds/stdout"), &lines);
+    assert_lines(&stored("crates/bounds/stdout"), &lines);
 }
 
 const FOUR: &str = "4\n0 0 2 -\n1 0 3 -\n2 0 5 -\n3 0 7 -";
@@ -288,5 +297,20 @@ fn the_examples_of_the_bound_are_what_this_program_finds() {
         .iter()
         .map(|(name, text)| Told::read(text).verdict(name));
     let lines: Vec<String> = asked.chain(read).chain(past).collect();
-    assert_lines(&stored("bound_vectors/stdout"), &lines);
+    assert_lines(&stored("crates/bound_vectors/stdout"), &lines);
+}
+
+/// The table of `docs/PROVED.md`, in which a run goes above the bound.
+const ABOVE: &str = "3\n0 2 1 -\n1 0 20 -\n1 2 4 1\n1 1 20 -\n1 2 4 3\n\
+                     2 0 20 -\n2 1 10 5\n2 2 7 6\n2 2 6 5";
+
+#[test]
+fn a_run_above_the_bound_is_what_its_listing_says() {
+    let table = Told::read(ABOVE).table;
+    assert_eq!(answer(&table, 0, MOST), "bound 7 weighings 8");
+    let listing = replay(&stored_bytes("examples/above-the-bound.trace"));
+    let listing = String::from_utf8(listing).expect("a text");
+    assert_eq!(listing, stored("examples/above-the-bound.listing"));
+    // Server 0 executed its task for 1 tick, lent 6 and spun for 4.
+    assert!(listing.contains("\nserver 0 running 89 1000 1 6 4\n"));
 }
