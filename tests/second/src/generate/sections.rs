@@ -82,8 +82,9 @@ fn good_table(random: &mut Random) -> SectionTable {
 
 /// Two sections of one task on resource 2 that mostly tie, under different outer resources: one
 /// alone, inside resource 0; the other inside 1, with a section in it on which a third task blocks
-/// from within 0. Another task's section inside 0 can follow only one of them, so that which of
-/// the two counts shows in the bound; random sections hardly ever do that.
+/// from within 0, or from within 1, where it can't. Another task's section inside 0 can follow only
+/// one of them, so that which of the two counts shows in the bound; random sections hardly ever do
+/// that.
 fn tied_table(random: &mut Random) -> SectionTable {
     let outer_length = 9;
     let mut numbers: Vec<u16> = (0..BOUND_TASK_LIMIT).collect();
@@ -91,12 +92,13 @@ fn tied_table(random: &mut Random) -> SectionTable {
     let [blocked, tied, follower, nested] = [0, 1, 2, 3].map(|place| TaskNumber(numbers[place]));
     let [short, gap, following] = [5, 3, 6].map(|most| random.between(1, most));
     let long = short + gap - u32::from(random.one_in(4));
+    let within = random.number(0, 1);
     let inside_zero = [(tied, 0, outer_length), (tied, 2, long)];
     let inside_one = [(tied, 1, outer_length), (tied, 2, short), (tied, 3, 1)];
     let mut nests: Vec<&[(TaskNumber, u16, u32)]> = vec![&inside_zero, &inside_one];
     let others = [
         [(follower, 0, outer_length), (follower, 2, following)],
-        [(nested, 0, outer_length), (nested, 3, gap)],
+        [(nested, within, outer_length), (nested, 3, gap)],
     ];
     let alone = [(blocked, 2, 1)];
     nests.extend(others.iter().map(|nest| &nest[..]));

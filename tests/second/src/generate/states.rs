@@ -381,9 +381,17 @@ fn number_past(random: &mut Random, limit: usize) -> u16 {
     }
 }
 
+/// No tasks, or more than the sixteen that are all read then.
 fn break_task_count(random: &mut Random, state: &mut State) {
-    state.tasks = number_past(random, TASK_LIMIT);
-    if state.tasks == 0 {
+    if random.one_in(2) {
+        let counts = Counts {
+            tasks: TASK_LIMIT as u16,
+            ..any_counts(random)
+        };
+        *state = shaped_state(random, counts, Shape::Scattered);
+        state.tasks = number_above(random, TASK_LIMIT as u16);
+    } else {
+        state.tasks = 0;
         for resource in &mut state.resource {
             resource.owner = None;
             resource.waiting = 0;
@@ -430,8 +438,15 @@ fn break_task_clause(random: &mut Random, state: &mut State, clause: Clause) {
         Clause::NoChainCloses => close_chain(random, state, task),
         Clause::ServedByRunningExecutes => state[task].runs = None,
         _ => {
-            let server = if random.one_in(4) { stray } else { near };
-            state[task].runs = Some(ServerNumber(server));
+            let serving = state.server_numbers();
+            let serving = serving.filter(|&server| state.served_by(server) == task);
+            let serving: Vec<ServerNumber> = serving.collect();
+            state[task].runs = match random.index(4) {
+                0 => Some(ServerNumber(stray)),
+                1 => Some(ServerNumber(near)),
+                // They may be of any phase.
+                _ => random.pick(&serving),
+            };
         }
     }
 }
