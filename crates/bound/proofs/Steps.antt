@@ -47,11 +47,15 @@ held-more masks held r zero n l e = absurd (n refl)
 held-more masks held r (suc i) n l e = (rw sub-one at e) ∙ ap (joined held) (sym (sets-at masks i (omega arith)))
 
 -- an entry of the drawn sets that meets Held or joins it
-pub meets-at : (masks : List ℕ) (i : ℕ) (held : Resources) (m : Bool) → i < 12 → m ≡ meets (resourcesOf (getD masks i 0)) held → m ≡ meets (getD (setsOf masks) i []) held
-meets-at masks i held m l e = e ∙ ap (λ o. meets o held) (sym (sets-at masks i l))
+pub meets-at
+    : (masks : List ℕ) (i : ℕ) (held : Resources) (m : Bool) (count : ℕ) → count ≤ 12 → i < count
+    → m ≡ meets (resourcesOf (getD masks i 0)) held → m ≡ meets (getD (setsOf masks) i []) held
+meets-at masks i held m count n l e = e ∙ ap (λ o. meets o held) (sym (sets-at masks i (omega arith)))
 
-pub joined-at : (masks : List ℕ) (i : ℕ) (held r : Resources) → i < 12 → r ≡ joined held (resourcesOf (getD masks i 0)) → r ≡ joined held (getD (setsOf masks) i [])
-joined-at masks i held r l e = e ∙ ap (joined held) (sym (sets-at masks i l))
+pub joined-at
+    : (masks : List ℕ) (i : ℕ) (held r : Resources) (count : ℕ) → count ≤ 12 → i < count
+    → r ≡ joined held (resourcesOf (getD masks i 0)) → r ≡ joined held (getD (setsOf masks) i [])
+joined-at masks i held r count n l e = e ∙ ap (joined held) (sym (sets-at masks i (omega arith)))
 
 -- an answer's value and giver, taken apart
 pub fair-of : (count v a : ℕ) (r : Tally) (n u l : ℕ) → r ≡ Of n u l → Fair count v a r → Grown count v a n u l

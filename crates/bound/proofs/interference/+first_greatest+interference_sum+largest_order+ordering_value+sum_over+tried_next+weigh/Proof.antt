@@ -120,8 +120,7 @@ abbrev first-greatest-Inv-loop : first-greatest-lts.InvT-loop
 first-greatest-Inv-loop rows spans outer reach b held resource task allowance on from end value₀ giver₀ kept₀ i₀ value giver kept i =
     (i ≤ end)
     × (end ≡ endIn spans (onSpan task resource))
-    × (end ≤ reach .count)
-    × (reach .count ≤ 12)
+    × (end ≤ reach .count) × (reach .count ≤ 12)
     × (giver ≤ reach .count)
     × (value + 1000000 * kept ≤ 1000000 * allowance)
     × ((s : Sections) → Shown s rows (setsOf outer) (reach .count) → let weigh = weighing (level (reach .left) s) s b (resourcesOf held) in
@@ -131,8 +130,7 @@ abbrev interference-sum-Inv-loop : interference-sum-lts.InvT-loop
 interference-sum-Inv-loop rows spans outer reach b task place r allowance inside from end value₀ kept₀ c₀ value kept c =
     (c ≤ end)
     × (end ≡ endIn spans (inSpan place))
-    × (end ≤ reach .count)
-    × (reach .count ≤ 12)
+    × (end ≤ reach .count) × (reach .count ≤ 12)
     × (value + 1000000 * kept ≤ 1000000 * allowance)
     × ((s : Sections) → Shown s rows (setsOf outer) (reach .count) → let ordered = ordering (reach .left) (level (reach .left - 1) s) s b in
     spend (run (sumTurn ordered (sumsAt (reach .left) (reach .depth - 1) s b task) s task (parentOf place) (resourcesOf r)) (reach .count - c) c value none) kept
@@ -166,16 +164,15 @@ pub +first-greatest+interference-sum+largest-order+ordering-value+sum-over+tried
     let on = c .before .before in
     let start = on .before in
     let spanned = start .pre .1 .0 .spanned in
-    let from-is = ap (fromIn (start .args .spans .now)) (on .on-span .ensures .0) in
-    let end-is = ap (endIn (start .args .spans .now)) (on .on-span .ensures .0) in (
+    let key = on .on-span .ensures .0 in (
       omega (arith, spanned .in-order (on .on-span .result)),
-      end-is,
+      ap (endIn (start .args .spans .now)) key,
       spanned .end-most (on .on-span .result),
       start .pre .1 .0 .ranged .count-most,
       omega arith,
       omega arith,
       λ s shown.
-          best-from s _ _ _ (shown .drawn) spanned _ _ _ _ _ from-is ∙ best-begins _ s _ _ _ _ (shown .drawn .count-is),
+          best-from s _ _ _ (shown .drawn) spanned _ _ _ _ _ (ap (fromIn (start .args .spans .now)) key) ∙ best-begins _ s _ _ _ _ (shown .drawn .count-is),
     ))
     (λ c κs.
     let start = c .before .before .before .before .before in
@@ -260,23 +257,21 @@ pub +first-greatest+interference-sum+largest-order+ordering-value+sum-over+tried
     let deep = inside .before in
     let start = deep .before .before .before .before in
     let spanned = start .pre .1 .0 .spanned in
-    let from-is = ap (fromIn (start .args .spans .now)) (inside .in-span .ensures .0) in
-    let end-is = ap (endIn (start .args .spans .now)) (inside .in-span .ensures .0) in (
+    let key = inside .in-span .ensures .0 in (
       omega (arith, spanned .in-order (inside .in-span .result)),
-      end-is,
+      ap (endIn (start .args .spans .now)) key,
       spanned .end-most (inside .in-span .result),
       start .pre .1 .0 .ranged .count-most,
       omega arith,
       λ s shown.
-          sum-from s _ _ _ (shown .drawn) spanned _ _ _ _ _ _ _ from-is
+          sum-from s _ _ _ (shown .drawn) spanned _ _ _ _ _ _ _ (ap (fromIn (start .args .spans .now)) key)
           ∙ sum-begins s _ _ _ _ _ _ _ _ (deep .before .before .if1 .left) (deep .if2 .left) (shown .drawn .count-is),
     ))
     (λ c κs.
     let deep = c .before .before .before .before .before in
-    let some-left = deep .before .before .if1 .left in
     let start = deep .before .before .before .before in
     let facts = start .pre .1 in
-    (omega (arith, start .pre .0), (facts .0, omega arith, omega (arith, some-left), omega (arith, facts .1), omega (arith, deep .if2 .left), omega (arith, facts .2), omega (arith, facts .3))))
+    (omega (arith, start .pre .0), (facts .0, omega arith, omega (arith, deep .before .before .if1 .left), omega (arith, facts .1), omega (arith, deep .if2 .left), omega (arith, facts .2), omega (arith, facts .3))))
     (λ c. search needs)
     (λ c. search needs)
     (λ c.
@@ -438,10 +433,9 @@ pub +first-greatest+interference-sum+largest-order+ordering-value+sum-over+tried
     ))
     (λ c.
     let own = c .before .before .before .before .before .before .before .before in
-    let facts = own .before .before .before .before .before .before .pre .1 in
     let fair = fair-of _ _ _ _ _ _ _ (c .before .before .before .before .before .before .own .given .1) (own .ordering-value .ensures .1) in
     let more = fair-of _ _ _ _ _ _ _ (c .before .nested .given .1) (c .before .before .before .interference-sum .ensures .1) in
-    record { fits = omega (arith, facts) })
+    record { fits = omega (arith, own .before .before .before .before .before .before .pre .1) })
     (λ c.
     let own = c .before .before .before .before .before .before .before .before in
     let wide = own .before in
@@ -503,8 +497,7 @@ pub +first-greatest+interference-sum+largest-order+ordering-value+sum-over+tried
     let best = known .before .before in
     let fair = fair-of _ _ _ _ _ _ _ (known .best .given .1) (best .first-greatest .ensures .1) in
     let more = fair-of _ _ _ _ _ _ _ (c .before .rest .given .1) (call .largest-order .ensures .1) in
-    let facts = best .before .pre .1 in
-    record { fits = omega (arith, facts) })
+    record { fits = omega (arith, best .before .pre .1) })
     (λ c.
     let call = c .before .before .before in
     let sets = call .before .before in
@@ -543,11 +536,10 @@ pub +first-greatest+interference-sum+largest-order+ordering-value+sum-over+tried
     (λ c.
     let some = c .before .before .before in
     let on = some .before in
-    let start = on .before .before .before in
-    let within : start .args .i < 12 = omega (arith, start .pre .1 .2, start .pre .1 .0 .ranged .count-most) in (
+    let start = on .before .before .before in (
       λ s shown.
           weigh-met s _ _ _ shown _ _ _ _ _ _ _ (omega arith) _ (on .before .is-on .ensures) (not-false _ (on .if1 .left)) (some .if2 .left) _
-          (meets-at _ (start .args .i) _ _ within (c .before .meets .ensures)) (c .if3 .taken),
+          (meets-at _ (start .args .i) _ _ _ (start .pre .1 .0 .ranged .count-most) (start .pre .1 .2) (c .before .meets .ensures)) (c .if3 .taken),
       record { most = omega arith; giver-most = omega arith },
     ))
     (λ c κs. search needs)
@@ -568,12 +560,11 @@ pub +first-greatest+interference-sum+largest-order+ordering-value+sum-over+tried
     let apart = wide .before in
     let some = apart .before .before .before in
     let on = some .before in
-    let start = on .before .before .before in
-    let within : start .args .i < 12 = omega (arith, start .pre .1 .2, start .pre .1 .0 .ranged .count-most) in (
+    let start = on .before .before .before in (
       λ s shown.
           weigh-out s _ _ _ shown _ _ _ _ _ _ _ (start .pre .1 .2) _ (on .before .is-on .ensures) (not-false _ (on .if1 .left)) (some .if2 .left) _
-          (meets-at _ (start .args .i) _ _ within (apart .before .meets .ensures)) (apart .if3 .left) _
-          (nested-is _ s (start .args .b .now) _ _ (start .args .i) _ _ _ (wide .with-task .ensures) (joined-at _ (start .args .i) _ _ within (sets .joined .ensures)))
+          (meets-at _ (start .args .i) _ _ _ (start .pre .1 .0 .ranged .count-most) (start .pre .1 .2) (apart .before .meets .ensures)) (apart .if3 .left) _
+          (nested-is _ s (start .args .b .now) _ _ (start .args .i) _ _ _ (wide .with-task .ensures) (joined-at _ (start .args .i) _ _ _ (start .pre .1 .0 .ranged .count-most) (start .pre .1 .2) (sets .joined .ensures)))
           (sym (c .enum-told .given .1) ∙ call .interference-sum .ensures .0 s shown),
       tt,
     ))
@@ -595,14 +586,13 @@ pub +first-greatest+interference-sum+largest-order+ordering-value+sum-over+tried
     let some = apart .before .before .before in
     let on = some .before in
     let start = on .before .before .before in
-    let within : start .args .i < 12 = omega (arith, start .pre .1 .2, start .pre .1 .0 .ranged .count-most) in
     let more = fair-of _ _ _ _ _ _ _ (c .before .before .nested .given .1) (call .interference-sum .ensures .1) in
     let facts = start .pre .1 in
     let length = facts .0 .ranged .length-most _ (facts .2) in (
       λ s shown.
           weigh-of s _ _ _ shown _ _ _ _ _ _ _ (start .pre .1 .2) _ (on .before .is-on .ensures) (not-false _ (on .if1 .left)) (some .if2 .left) _
-          (meets-at _ (start .args .i) _ _ within (apart .before .meets .ensures)) (apart .if3 .left) _
-          (nested-is _ s (start .args .b .now) _ _ (start .args .i) _ _ _ (wide .with-task .ensures) (joined-at _ (start .args .i) _ _ within (sets .joined .ensures)))
+          (meets-at _ (start .args .i) _ _ _ (start .pre .1 .0 .ranged .count-most) (start .pre .1 .2) (apart .before .meets .ensures)) (apart .if3 .left) _
+          (nested-is _ s (start .args .b .now) _ _ (start .args .i) _ _ _ (wide .with-task .ensures) (joined-at _ (start .args .i) _ _ _ (start .pre .1 .0 .ranged .count-most) (start .pre .1 .2) (sets .joined .ensures)))
           _ _ _ (sym (c .before .before .nested .given .1) ∙ call .interference-sum .ensures .0 s shown),
       record { most = omega (arith, facts, some .if2 .left); giver-most = omega arith },
     )))
