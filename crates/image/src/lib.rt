@@ -14,7 +14,6 @@ pub struct Imaged {
     pub state: State,
 }
 
-mod blank;
 pub mod numbers;
 pub mod reading;
 pub mod sizes;

@@ -8,7 +8,6 @@ ghost use Rattle.image.specs.Encoded.{noTaskNo};
 ghost use Rattle.image.specs.Decoded.{entriesIn, taskNoIn, serverIn, taskIn, resourceIn, stateIn, decoded, imagedBy};
 use crate::ImageAnswer;
 use crate::Imaged;
-use crate::blank::unusable_state;
 use crate::sizes::RESOURCE_SIZE;
 use crate::sizes::RESOURCES_PLACE;
 use crate::sizes::SERVER_SIZE;
@@ -25,6 +24,7 @@ use model::Server;
 use model::State;
 use model::Task;
 use model::TaskNo;
+use model::blank::unusable_state;
 use trace::numbers::four_bytes;
 use trace::numbers::two_bytes;
 

@@ -133,4 +133,5 @@ pub struct Row {
     pub spin: u32,
 }
 
+pub mod blank;
 pub mod entries;

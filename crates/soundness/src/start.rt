@@ -1,22 +1,19 @@
 // The fresh state of a table: document 01, "Fresh", and refusals 19 to 21 in its order. Rows past the table's tasks are not read. Assumes nothing.
 ghost use mathlib.Core.Path.{_≡_};
 ghost use Prim.Native.Nat.{_≤_};
-ghost use Rattle.model.specs.Fresh.{entryRefusal, freshRefusal, blankServer, blankTask, blankResource, freshServer, freshTask, freshState, unusable, freshOf};
+ghost use Rattle.model.specs.Fresh.{entryRefusal, freshRefusal, freshServer, freshTask, freshState, freshOf};
 ghost use Rattle.model.specs.Said.{saidFresh};
 ghost use Rattle.soundness.specs.Start.{answerOf, firstAnswer, freshSays};
 use model::Entry;
 use model::FreshAnswer;
 use model::FreshOutcome;
 use model::Mode;
-use model::Owner;
 use model::Phase;
-use model::Resource;
 use model::Runs;
 use model::Server;
 use model::State;
 use model::Table;
 use model::Task;
-use model::TaskNo;
 
 // "servers Idle with budget Q and deadline 0, .. and accounts 0"
 fn fresh_server(entry: Entry) -> Server
@@ -49,49 +46,11 @@ fn fresh_task(entry: Entry) -> Task
     }
 }
 
-fn blank_resource() -> Resource
-    ensures { λ r. ⌜ r ≡ blankResource ⌝ }
-{
-    let none = TaskNo(0);
-    let queue = [none; 16];
-    Resource {
-        owner: Owner::Nobody,
-        waiting: 0,
-        queue: queue,
-    }
-}
-
-// "no processors, no tasks, no resources and the rest as in entries past the counts"
-fn unusable_state() -> State
-    ensures { λ r. ⌜ r ≡ unusable ⌝ }
-{
-    let past = Entry {
-        quota: 0,
-        period: 0,
-        declared: 0,
-    };
-    let server = fresh_server(past);
-    let task = fresh_task(past);
-    let resource = blank_resource();
-    let servers = [server; 16];
-    let tasks = [task; 16];
-    let resources = [resource; 16];
-    State {
-        processors: 0,
-        tasks: 0,
-        resources: 0,
-        clock: 0,
-        server: servers,
-        task: tasks,
-        resource: resources,
-    }
-}
-
 // The state of a table that is not refused.
 fn fresh_state(tb: Table) -> State
     ensures { λ r. ⌜ r ≡ freshState tb ⌝ }
 {
-    let past = unusable_state();
+    let past = model::blank::unusable_state();
     let mut servers = past.server;
     let mut tasks = past.task;
     let resources = past.resource;
@@ -170,7 +129,7 @@ pub fn fresh(tb: Table) -> FreshOutcome
             }
         }
         FreshAnswer::Refused(n) => {
-            let state = unusable_state();
+            let state = model::blank::unusable_state();
             FreshOutcome {
                 answer: FreshAnswer::Refused(n),
                 state: state,

@@ -1,9 +1,9 @@
--- `image::blank::unusable_state` meets its contract. Assumes nothing.
+-- `model::blank::unusable_state` meets its contract. Assumes nothing.
 use borrow.Author.Needs.{needs}
 use lib.ListN.{replicate}
 use Rattle.model.specs.State.{places}
-use Rattle.image.proofs.blank.unusable_state.Statement.{statement}
-use Rattle.image.proofs.blank.unusable_state.Tie as tie
+use Rattle.model.proofs.blank.unusable_state.Statement.{statement}
+use Rattle.model.proofs.blank.unusable_state.Tie as tie
 
 pub unusable-state-spec : {M : Type 1} → statement M
 unusable-state-spec =
@@ -12,7 +12,7 @@ unusable-state-spec =
     (λ c κs. search needs)
     (λ c κs. search needs)
     (λ c κs. search needs)
-    (λ c. λ i. record {
+    (λ c i. record {
       processors = 0;
       tasks = 0;
       resources = 0;

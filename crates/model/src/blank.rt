@@ -1,15 +1,15 @@
-// What a refused read gives back beside its answer: no state of use, as a refused fresh does. Assumes nothing.
+// Entries past the counts, and what a refused fresh or a refused read gives back beside its answer: no state of use. Assumes nothing.
 ghost use mathlib.Core.Path.{_≡_};
 ghost use Rattle.model.specs.Fresh.{blankServer, blankTask, blankResource, unusable};
-use model::Mode;
-use model::Owner;
-use model::Phase;
-use model::Resource;
-use model::Runs;
-use model::Server;
-use model::State;
-use model::Task;
-use model::TaskNo;
+use crate::Mode;
+use crate::Owner;
+use crate::Phase;
+use crate::Resource;
+use crate::Runs;
+use crate::Server;
+use crate::State;
+use crate::Task;
+use crate::TaskNo;
 
 fn blank_server() -> Server
     ensures { λ r. ⌜ r ≡ blankServer ⌝ }
@@ -52,6 +52,7 @@ fn blank_resource() -> Resource
     }
 }
 
+// "no processors, no tasks, no resources and the rest as in entries past the counts"
 pub fn unusable_state() -> State
     ensures { λ r. ⌜ r ≡ unusable ⌝ }
 {
