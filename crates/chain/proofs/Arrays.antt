@@ -15,6 +15,7 @@ use Rattle.laws.proofs.Set.{set-at, set-same, set-skip}
 use Rattle.laws.proofs.Lists.{replicate-at}
 use Rattle.model.specs.declared.State.{State}
 use Rattle.model.specs.State.{places, nobody, here, present, inUse, ownerNo, resourceAt, taskAt, awaited, ownerOf, next, chainEnd, served}
+use Rattle.model.proofs.Chain.{owner-past, next-past, present-past, here-past}
 use Rattle.chain.specs.Arrays.{arrayOf, ownersOf, nextsOf, endsOf, atOrNobody, endStep, endBy, endsBy}
 
 pub array-at : (f : ℕ → ℕ) (i : ℕ) → i < places → getD (arrayOf f) i 0 ≡ f i
@@ -24,23 +25,6 @@ array-at f i l = set-at places i f (replicate places nobody) 0 l l
 pub array-same : (f g : ℕ → ℕ) → ((i : ℕ) → i < places → f i ≡ g i) → arrayOf f ≡ arrayOf g
 unfolding arrayOf
 array-same f g same = set-same f g places (replicate places nobody) same
-
--- a resource that is not in use has no owner, a task that is not in use waits for nobody
-pub owner-past : (st : State) (r : ℕ) → present st r ≡ false → ownerOf st r ≡ nobody
-unfolding ownerOf
-owner-past st r e = rw e
-
-pub next-past : (st : State) (t : ℕ) → here st t ≡ false → next st t ≡ nobody
-unfolding next
-next-past st t e = rw e
-
-pub present-past : (st : State) (r : ℕ) → places ≤ r → present st r ≡ false
-unfolding present
-present-past st r l = rw (le-ltb r places l)
-
-pub here-past : (st : State) (i : ℕ) → places ≤ i → here st i ≡ false
-unfolding here
-here-past st i l = rw (le-ltb i places l)
 
 -- the owner read off the array, for any number
 pub owner-is : (st : State) (r : ℕ) → atOrNobody (ownersOf st) r ≡ ownerOf st r

@@ -71,6 +71,14 @@ pub first-no : (n : ℕ) (b : Bool) (ts : List (ℕ × Bool)) → b ≡ false �
 unfolding firstOf
 first-no n b ts e = rw e
 
+-- where none refuses, the first fails, and so do the later ones
+pub none-fails : (n : ℕ) (b : Bool) (ts : List (ℕ × Bool)) → firstOf ((n, b) ∷ ts) ≡ none → b ≡ false
+unfolding firstOf
+none-fails n b ts h = split b (λ y. none-some (sym (rw y at h))) (λ f. f)
+
+pub none-later : (n : ℕ) (b : Bool) (ts : List (ℕ × Bool)) → firstOf ((n, b) ∷ ts) ≡ none → firstOf ts ≡ none
+none-later n b ts h = sym (first-no n b ts (none-fails n b ts h)) ∙ h
+
 -- where the first test's number is not given, the rest decide
 pub first-rest : (n : ℕ) (b : Bool) (ts : List (ℕ × Bool)) → (firstOf ((n, b) ∷ ts) ≡ some n → ⊥) → firstOf ((n, b) ∷ ts) ≡ firstOf ts
 first-rest n b ts x = split b (λ e. absurd (x (first-yes n b ts e))) (first-no n b ts)

@@ -15,7 +15,7 @@ use Rattle.model.specs.Events.{firstWaiter}
 use Rattle.model.proofs.Chain.{here-below, present-below}
 use Rattle.model.proofs.Sound.{Loose, sound-facts}
 use Rattle.locks.specs.Verdicts.{Clear}
-use Rattle.locks.proofs.Room.{stack-room, queue-room, stack-held, first-here, first-waits, executing-waits}
+use Rattle.model.proofs.Room.{stack-room, queue-room, stack-held, first-here, first-waits, executing-waits}
 use Rattle.locks.proofs.Refusals.{Lockable, lock-clear, Unlockable, unlock-clear}
 
 pub sound-loose : (st : State) → sound st ≡ true → Loose st

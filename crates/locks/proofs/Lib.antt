@@ -1,4 +1,3 @@
-pub mod Room
 pub mod Refusals
 pub mod Changes
 pub mod Rests

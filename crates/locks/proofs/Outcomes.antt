@@ -22,7 +22,7 @@ use Rattle.chain.specs.Arrays.{endsOf}
 use Rattle.chain.proofs.Arrays.{array-at, ends-at}
 use Rattle.settle.specs.Arrays.{executorBefore, executorsOf, settledBy}
 use Rattle.settle.proofs.Arrays.{settled-is}
-use Rattle.settle.proofs.Laws.{settled-served}
+use Rattle.model.proofs.RuleH.{settled-served}
 use Rattle.locks.specs.declared.Verdict.{Verdict}
 use Rattle.locks.specs.declared.Verdict.the-variants as verdict
 use Rattle.locks.specs.Verdicts.{refusalOf, Clear}

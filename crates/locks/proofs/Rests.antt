@@ -2,12 +2,13 @@
 use mathlib.Core.Path.{_≡_, refl, ap}
 use mathlib.Core.Bool.{true, false}
 use mathlib.Core.List.{List}
-use Prim.Native.Nat.{ℕ, zero, suc}
+use Prim.Native.Nat.{ℕ}
 use Rattle.laws.proofs.Cases.{split}
 use Rattle.model.specs.declared.Server.{Server}
 use Rattle.model.specs.declared.State.{State}
-use Rattle.model.specs.State.{places, taskAt, here, present, suspended, ownerOf, next, chainEnd, served}
+use Rattle.model.specs.State.{taskAt, here, present, suspended, ownerOf, next, served}
 use Rattle.model.specs.Events.{withServers, eachServer, rested, restedEnd}
+use Rattle.model.proofs.Chain.{same-served}
 use Rattle.chain.specs.Arrays.{endsOf}
 use Rattle.chain.proofs.Arrays.{array-same}
 use Rattle.servers.specs.declared.rest.Turned.{Turned}
@@ -36,14 +37,8 @@ module _ (ss : List Server) (st : State) where
   unfolding next ownerOf present here
   servers-next t = refl
 
-  servers-end : (left t : ℕ) → chainEnd left (withServers ss st) t ≡ chainEnd left st t
-  unfolding chainEnd
-  servers-end zero t = refl
-  servers-end (suc left) t = rw (servers-next t, servers-end left (next st t))
-
   servers-served : (t : ℕ) → served (withServers ss st) t ≡ served st t
-  unfolding served
-  servers-served t = servers-end places t
+  servers-served = same-served (withServers ss st) st servers-next
 
 -- nor are servers that came to rest
 pub rested-served : (st : State) (t s : ℕ) → served (restedEnd st t) s ≡ served st s

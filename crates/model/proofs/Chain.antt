@@ -1,17 +1,17 @@
 -- Laws of chains: links stay among the numbers in use, the chain end is where the links lead, and the sixteen tasks of its fuel never cut it:
 -- that no chain closes is decided by the test, and there the chain end is what document 01 says (`end-is`). Assumes nothing.
 use mathlib.Core.Path.{_≡_, refl, sym, _∙_}
-use mathlib.Core.Bool.{true, _&&_}
+use mathlib.Core.Bool.{true, false, _&&_}
 use Prim.Native.Nat.{ℕ, zero, suc, _<_, _≤_}
 use native.Mathlib.Omega.{arith}
 use lib.Dec.{ltb}
-use borrow.Author.Tests.{ltb-true, ltb-false}
+use borrow.Author.Tests.{ltb-true, ltb-false, le-ltb}
 use Rattle.laws.specs.Tests.{if_then_else_}
 use Rattle.laws.specs.Links.{hop, walk, Leads}
 use Rattle.laws.proofs.Cases.{split, and-left, and-right}
 use Rattle.laws.proofs.Pigeonhole.{walk-ended, walk-linked, walk-more, walk-below, ended-open, closed-or-ended}
 use Rattle.model.specs.declared.State.{State}
-use Rattle.model.specs.State.{places, taskAt, resourceAt, awaited, ownerNo, here, present, ownerOf, next, chainEnd, served}
+use Rattle.model.specs.State.{places, nobody, taskAt, resourceAt, awaited, ownerNo, here, present, ownerOf, next, chainEnd, served}
 
 pub here-below : (st : State) (i : ℕ) → here st i ≡ true → i < places
 unfolding here
@@ -24,6 +24,23 @@ here-tasks st i h = ltb-true i (st .tasks) (and-right (ltb i places) _ h)
 pub present-below : (st : State) (r : ℕ) → present st r ≡ true → r < places
 unfolding present
 present-below st r h = ltb-true r places (and-left (ltb r places) _ h)
+
+-- a resource that is not in use has no owner, a task that is not in use waits for nobody
+pub owner-past : (st : State) (r : ℕ) → present st r ≡ false → ownerOf st r ≡ nobody
+unfolding ownerOf
+owner-past st r e = rw e
+
+pub next-past : (st : State) (t : ℕ) → here st t ≡ false → next st t ≡ nobody
+unfolding next
+next-past st t e = rw e
+
+pub present-past : (st : State) (r : ℕ) → places ≤ r → present st r ≡ false
+unfolding present
+present-past st r l = rw (le-ltb r places l)
+
+pub here-past : (st : State) (i : ℕ) → places ≤ i → here st i ≡ false
+unfolding here
+here-past st i l = rw (le-ltb i places l)
 
 -- an owner is a number in use, or nobody
 pub owner-here : (st : State) (r : ℕ) → ownerOf st r < places → here st (ownerOf st r) ≡ true
@@ -89,6 +106,16 @@ end-is st t o =
     (ltb (next st t) places)
     (λ y. rw y (end-owner st t o (ltb-true _ _ y)))
     (λ n. rw n (end-itself st t (ltb-false _ _ n)))
+
+-- the same links, the same ends
+same-end : (a b : State) → ((t : ℕ) → next a t ≡ next b t) → (left t : ℕ) → chainEnd left a t ≡ chainEnd left b t
+unfolding chainEnd
+same-end a b same zero t = refl
+same-end a b same (suc left) t = rw (same t, same-end a b same left (next b t))
+
+pub same-served : (a b : State) → ((t : ℕ) → next a t ≡ next b t) → (t : ℕ) → served a t ≡ served b t
+unfolding served
+same-served a b same t = same-end a b same places t
 
 -- the end of a number below sixteen is below sixteen, and of a number in use is in use
 pub served-below : (st : State) (t : ℕ) → t < places → served st t < places

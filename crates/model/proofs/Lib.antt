@@ -1,3 +1,7 @@
 pub mod Chain
 pub mod Sound
 pub mod Chosen
+pub mod RuleH
+pub mod Room
+pub mod Fresh
+pub mod Grounds

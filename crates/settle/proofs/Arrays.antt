@@ -23,8 +23,9 @@ use Rattle.model.specs.declared.Task.{Task}
 use Rattle.model.specs.declared.State.{State}
 use Rattle.model.specs.State.{places, nobody, noServer, noTask, taskAt, inUse, here, running, placeNo, executorOf, served, runningAt, runningFor}
 use Rattle.model.specs.RuleH.{budgetAt, chosen, executorBy, runsIn, withRuns, withTasks, settledTask, settled}
+use Rattle.model.proofs.Chain.{here-past}
 use Rattle.chain.specs.Arrays.{arrayOf, endsOf}
-use Rattle.chain.proofs.Arrays.{array-at, array-same, ends-at, here-past}
+use Rattle.chain.proofs.Arrays.{array-at, array-same, ends-at}
 use Rattle.settle.specs.Arrays.{executorBefore, executorsOf, onAt, onBy, budgetIn, budgetsOf, servesBy, betterBy, budgetBy, bestBy, bestsBy, executorIn, settledTaskBy, settledTo, settledBy}
 
 running-past : (st : State) (s : ℕ) → places ≤ s → runningAt st s ≡ false

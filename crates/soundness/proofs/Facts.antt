@@ -26,10 +26,10 @@ use Rattle.model.specs.declared.TaskNo.{TaskNo}
 use Rattle.model.specs.declared.State.{State}
 use Rattle.model.specs.State.{places, nobody, serverAt, taskAt, resourceAt, inUse, inSet, here, present, idle, running, recharging, suspended, waiting, awaited, owned, placed, placeNo, ownerOf, served, runningAt}
 use Rattle.model.specs.Sound.{sizesFit}
-use Rattle.model.proofs.Chain.{here-below, served-below, Open}
+use Rattle.model.proofs.Chain.{here-below, served-below, Open, here-past}
 use Rattle.model.proofs.Sound.{Each, EachResource, each-fact, each-resource-fact}
 use Rattle.chain.specs.Arrays.{arrayOf, ownersOf, atOrNobody}
-use Rattle.chain.proofs.Arrays.{array-at, here-past}
+use Rattle.chain.proofs.Arrays.{array-at}
 use Rattle.soundness.specs.Members.{otherAt, memberAt, membersFit, numberAt, numbersOf, usedAt, usedIn}
 use Rattle.soundness.specs.Groups.{wanted, wantedOf, runsFor, runsForOf, waitPasses, taskPasses, taskPassesAt, depthAt, tasksPass, ownerPasses, everyBit, resourcePasses, resourcePassesAt, lengthAt, resourcesPass, serverFits, servesPasses, executesPasses, serverPassesAt, serversPass, passes}
 

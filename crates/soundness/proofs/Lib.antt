@@ -5,4 +5,3 @@ pub mod Facts
 pub mod Passed
 pub mod Same
 pub mod Turns
-pub mod Fresh

@@ -14,10 +14,10 @@ use Rattle.laws.proofs.All.{all-at}
 use Rattle.model.specs.declared.State.{State}
 use Rattle.model.specs.State.{places, nobody, taskAt, resourceAt, inSet, here, present, declares, awaited, ownerNo, placed, placeNo, running, serverAt, ownerOf, served, runningAt, runningFor, waiting, owned}
 use Rattle.model.specs.Sound.{heldAt, queuedAt, sound}
-use Rattle.model.proofs.Chain.{here-below, present-below, owner-here}
+use Rattle.model.proofs.Chain.{here-below, present-below, owner-here, owner-past}
 use Rattle.model.proofs.Sound.{Each, Wait, Loose, Sound, sound-facts, Agree, Declared, Owned, Executor}
 use Rattle.chain.specs.Arrays.{ownersOf, atOrNobody}
-use Rattle.chain.proofs.Arrays.{owner-is, owner-past}
+use Rattle.chain.proofs.Arrays.{owner-is}
 use Rattle.soundness.specs.Members.{numbersOf}
 use Rattle.soundness.specs.Groups.{wanted, wantedOf, runsFor, runsForOf, everyBit, passes}
 use Rattle.soundness.proofs.Sums.{count-found}

@@ -16,9 +16,9 @@ use Rattle.laws.proofs.Sum.{sum-none, sum-more, sum-done}
 use Rattle.model.specs.declared.State.{State}
 use Rattle.model.specs.State.{places, nobody, inSet, taskAt, resourceAt, serverAt, awaited, running, here, ownerOf, next, served, runningAt}
 use Rattle.model.specs.Sound.{each, ifHere}
-use Rattle.model.proofs.Chain.{served-below}
+use Rattle.model.proofs.Chain.{served-below, owner-past, present-past}
 use Rattle.chain.specs.Arrays.{arrayOf, ownersOf, nextsOf, endsOf, endsBy, atOrNobody}
-use Rattle.chain.proofs.Arrays.{array-at, array-same, owner-is, owner-past, present-past, ends-at, ends-are}
+use Rattle.chain.proofs.Arrays.{array-at, array-same, owner-is, ends-at, ends-are}
 use Rattle.soundness.specs.Members.{otherAt, memberAt, membersFit, usedIn}
 use Rattle.soundness.specs.Groups.{wanted, wantedOf, linkAt, linksBy, runsFor, taskPasses, taskPassesAt, resourcePasses, resourcePassesAt, serverPasses, serverPassesAt, executesPasses, runsForOf, serversPass}
 use Rattle.soundness.proofs.Passed.{depth, waiters, task-facts, resource-facts}

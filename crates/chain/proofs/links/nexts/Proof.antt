@@ -8,8 +8,9 @@ use lib.ListN.{replicate}
 use Rattle.laws.specs.Loops.{setTo}
 use Rattle.laws.proofs.Set.{set-none, set-more, set-done}
 use Rattle.model.specs.State.{here, next}
+use Rattle.model.proofs.Chain.{next-past}
 use Rattle.chain.specs.Arrays.{arrayOf, nextsOf, atOrNobody}
-use Rattle.chain.proofs.Arrays.{array-skip, owner-is, next-read, next-past}
+use Rattle.chain.proofs.Arrays.{array-skip, owner-is, next-read}
 use Rattle.chain.proofs.links.nexts.Statement.{statement}
 use Rattle.chain.proofs.links.nexts.Tie as tie
 

@@ -8,8 +8,9 @@ use lib.ListN.{replicate}
 use Rattle.laws.specs.Loops.{setTo}
 use Rattle.laws.proofs.Set.{set-none, set-more, set-done}
 use Rattle.model.specs.State.{present, ownerOf}
+use Rattle.model.proofs.Chain.{owner-past}
 use Rattle.chain.specs.Arrays.{arrayOf, ownersOf}
-use Rattle.chain.proofs.Arrays.{array-skip, owner-read, owner-past}
+use Rattle.chain.proofs.Arrays.{array-skip, owner-read}
 use Rattle.chain.proofs.links.owners.Statement.{statement}
 use Rattle.chain.proofs.links.owners.Tie as tie
 

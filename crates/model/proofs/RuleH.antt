@@ -3,7 +3,7 @@
 use mathlib.Core.Path.{_≡_, refl, sym, ap, _∙_}
 use mathlib.Core.Bool.{true, false}
 use mathlib.Core.Logic.{⊎-elim}
-use Prim.Native.Nat.{ℕ, zero, suc, _<_, _≤_}
+use Prim.Native.Nat.{ℕ, _<_, _≤_}
 use native.Mathlib.Omega.{arith}
 use lib.Dec.{ltb}
 use lib.ListN.{length, List·getD-eq-default}
@@ -11,12 +11,12 @@ use borrow.Author.Tests.{eqb-true, lt-ltb, ltb-true, ltb-false}
 use Rattle.laws.specs.Loops.{setTo}
 use Rattle.laws.proofs.Cases.{split, holds-fails, and-left, and-right}
 use Rattle.laws.proofs.Set.{length-setTo, set-at, set-cases}
 use Rattle.model.specs.declared.Runs.the-variants.{Nowhere}
 use Rattle.model.specs.declared.State.{State}
-use Rattle.model.specs.State.{places, nobody, noTask, taskAt, here, present, awaited, placed, placeNo, ownerOf, next, chainEnd, served, runningAt, runningFor, executorOf, executing}
+use Rattle.model.specs.State.{places, nobody, noTask, taskAt, here, present, awaited, placed, placeNo, ownerOf, next, served, runningAt, runningFor, executorOf, executing}
 use Rattle.model.specs.RuleH.{chosen, executorBy, runsIn, settledTask, settled}
-use Rattle.model.proofs.Chain.{here-below, served-here}
+use Rattle.model.proofs.Chain.{here-below, same-served, served-here}
 use Rattle.model.proofs.Chosen.{chosen-best, chosen-serves, chosen-some}
 
 -- who serves is below sixteen
 pub serving-below : (st : State) (t s : ℕ) → runningFor st t s ≡ true → s < places
@@ -118,14 +118,8 @@ module _ (old st : State) (acting : ℕ) where
   unfolding next
   settled-next t = rw (settled-here t, settled-mode t, settled-owner (awaited (taskAt st t .mode)))
 
-  settled-end : (left t : ℕ) → chainEnd left (settled old acting st) t ≡ chainEnd left st t
-  unfolding chainEnd
-  settled-end zero t = refl
-  settled-end (suc left) t = rw (settled-next t, settled-end left (next st t))
-
   pub settled-served : (s : ℕ) → served (settled old acting st) s ≡ served st s
-  unfolding served
-  settled-served s = settled-end places s
+  settled-served s = same-served (settled old acting st) st settled-next s
 
   pub settled-running : (s : ℕ) → runningAt (settled old acting st) s ≡ runningAt st s
   unfolding settled runningAt here

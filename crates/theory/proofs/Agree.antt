@@ -1,0 +1,196 @@
+-- What it is for two states to agree on a group, and that what a group reads is its own: for any labelling of tasks and resources under which
+-- waiters and owners have their resource's label (`Homed`), chains, servers that serve and executors stay inside. Assumes nothing.
+use mathlib.Core.Path.{_≡_, refl, sym, ap, _∙_}
+use mathlib.Core.Bool.{Bool, true, false, _&&_}
+use Prim.Native.Nat.{ℕ, zero, suc, _<_}
+use native.Mathlib.Omega.{arith}
+use lib.Dec.{ltb, eqb}
+use lib.ListN.{length}
+use borrow.Author.Tests.{ltb-true, eqb-true, eqb-false}
+use Rattle.laws.proofs.Cases.{split, and-left, and-right}
+use Rattle.model.specs.declared.State.{State}
+use Rattle.model.specs.State.{places, noServer, noTask, noResource, taskAt, resourceAt, here, present, awaited, ownerNo, ownerOf, next, chainEnd, served, runningAt, runningFor, executorOf, executing, executes}
+use Rattle.model.specs.RuleH.{budgetAt, chosen}
+use Rattle.model.proofs.Chain.{linked-here}
+use Rattle.model.proofs.Chosen.{chosen-alone}
+use Rattle.theory.proofs.Parts.{Same, same-refl, same-sym, same-trans}
+
+-- a label for each task (and server), and one for each resource
+pub record Labels : Type 0 where
+  pub of-task : ℕ → ℕ
+  pub of-resource : ℕ → ℕ
+
+-- s and u agree on what the group g reads: the counts, the clock, the entries of its tasks, servers and resources
+pub record Agree (l : Labels) (g : ℕ) (s u : State) : Type 0 where
+  pub processors-same : s .processors ≡ u .processors
+  pub tasks-same : s .tasks ≡ u .tasks
+  pub resources-same : s .resources ≡ u .resources
+  pub clock-same : s .clock ≡ u .clock
+  pub server-same : Same (l .of-task) g places noServer (s .server) (u .server)
+  pub task-same : Same (l .of-task) g places noTask (s .task) (u .task)
+  pub resource-same : Same (l .of-resource) g places noResource (s .resource) (u .resource)
+
+-- who waits for a resource and who owns it have its label
+pub record Homed (l : Labels) (st : State) : Type 0 where
+  pub waits
+      : (t : ℕ) → here st t ≡ true → present st (awaited (taskAt st t .mode)) ≡ true → l .of-resource (awaited (taskAt st t .mode)) ≡ l .of-task t
+  pub owns
+      : (r : ℕ) → present st r ≡ true → here st (ownerNo (resourceAt st r .owner)) ≡ true →
+      l .of-resource r ≡ l .of-task (ownerNo (resourceAt st r .owner))
+
+module _ (l : Labels) where
+  pub agree-refl
+      : (g : ℕ) (s : State) → length (s .server) ≡ places → length (s .task) ≡ places → length (s .resource) ≡ places → Agree l g s s
+  agree-refl g s p q r =
+      record {
+        processors-same = refl;
+        tasks-same = refl;
+        resources-same = refl;
+        clock-same = refl;
+        server-same = same-refl _ _ _ _ _ p;
+        task-same = same-refl _ _ _ _ _ q;
+        resource-same = same-refl _ _ _ _ _ r;
+      }
+
+  pub agree-sym : (g : ℕ) (s u : State) → Agree l g s u → Agree l g u s
+  agree-sym g s u a =
+      record {
+        processors-same = sym (a .processors-same);
+        tasks-same = sym (a .tasks-same);
+        resources-same = sym (a .resources-same);
+        clock-same = sym (a .clock-same);
+        server-same = same-sym _ _ _ _ (a .server-same);
+        task-same = same-sym _ _ _ _ (a .task-same);
+        resource-same = same-sym _ _ _ _ (a .resource-same);
+      }
+
+  pub agree-trans : (g : ℕ) (s u v : State) → Agree l g s u → Agree l g u v → Agree l g s v
+  agree-trans g s u v a b =
+      record {
+        processors-same = a .processors-same ∙ b .processors-same;
+        tasks-same = a .tasks-same ∙ b .tasks-same;
+        resources-same = a .resources-same ∙ b .resources-same;
+        clock-same = a .clock-same ∙ b .clock-same;
+        server-same = same-trans _ _ _ _ (a .server-same) (b .server-same);
+        task-same = same-trans _ _ _ _ (a .task-same) (b .task-same);
+        resource-same = same-trans _ _ _ _ (a .resource-same) (b .resource-same);
+      }
+
+  -- chains stay inside
+  module _ (st : State) (home : Homed l st) where
+    next-home : (t : ℕ) → next st t < places → l .of-task (next st t) ≡ l .of-task t
+    unfolding next ownerOf
+    next-home t k =
+        let h : here st t ≡ true = linked-here st t k in
+        let r : ℕ = awaited (taskAt st t .mode) in
+        split
+        (present st r && here st (ownerNo (resourceAt st r .owner)))
+        (λ y.
+        let p : present st r ≡ true = and-left (present st r) _ y in
+        rw (h, y) (sym (home .owns r p (and-right (present st r) _ y)) ∙ home .waits t h p))
+        (λ n. absurd (omega (arith, rw (h, n) at k)))
+
+    end-home : (left t : ℕ) → l .of-task (chainEnd left st t) ≡ l .of-task t
+    unfolding chainEnd
+    end-home zero t = refl
+    end-home (suc left) t =
+        split (ltb (next st t) places) (λ y. rw y (end-home left (next st t) ∙ next-home t (ltb-true _ _ y))) (λ n. rw n refl)
+
+    pub served-home : (t : ℕ) → l .of-task (served st t) ≡ l .of-task t
+    unfolding served
+    served-home t = end-home places t
+
+    -- a server that serves t has its label, and no other serves it
+    pub serves-home : (b : Bool) (t x : ℕ) → (b && eqb (served st x) t) ≡ true → l .of-task x ≡ l .of-task t
+    serves-home b t x h = sym (served-home x) ∙ ap (l .of-task) (eqb-true (served st x) t (and-right b _ h))
+
+    pub serves-not : (b : Bool) (t x : ℕ) → (l .of-task x ≡ l .of-task t → ⊥) → (b && eqb (served st x) t) ≡ false
+    serves-not b t x n = split (b && eqb (served st x) t) (λ y. absurd (n (serves-home b t x y))) (λ e. e)
+
+    pub for-home : (t x : ℕ) → runningFor st t x ≡ true → l .of-task x ≡ l .of-task t
+    unfolding runningFor
+    for-home t x h = serves-home (runningAt st x) t x h
+
+  -- what the group reads
+  module _ (g : ℕ) (s u : State) (a : Agree l g s u) where
+    pub here-same : (i : ℕ) → here s i ≡ here u i
+    unfolding here
+    here-same i = rw (a .tasks-same) refl
+
+    pub present-same : (r : ℕ) → present s r ≡ present u r
+    unfolding present
+    present-same r = rw (a .resources-same) refl
+
+    pub running-same : (x : ℕ) → l .of-task x ≡ g → runningAt s x ≡ runningAt u x
+    unfolding runningAt
+    running-same x e = rw (here-same x, a .server-same .entry x e) refl
+
+    pub executor-of-same : (t : ℕ) → l .of-task t ≡ g → executorOf s t ≡ executorOf u t
+    unfolding executorOf
+    executor-of-same t e = rw (a .task-same .entry t e) refl
+
+    pub executing-same : (t : ℕ) → l .of-task t ≡ g → executing s t ≡ executing u t
+    unfolding executing
+    executing-same t e = rw (here-same t, a .task-same .entry t e) refl
+
+    owner-same : (r : ℕ) → (present s r ≡ true → l .of-resource r ≡ g) → ownerOf s r ≡ ownerOf u r
+    unfolding ownerOf
+    owner-same r h =
+        split
+        (present s r)
+        (λ y. rw (← (present-same r), y, here-same, a .resource-same .entry r (h y)) refl)
+        (λ n. rw (← (present-same r), n) refl)
+
+    module _ (home : Homed l s) where
+      pub next-same : (t : ℕ) → l .of-task t ≡ g → next s t ≡ next u t
+      unfolding next
+      next-same t e =
+          split
+          (here s t)
+          (λ y.
+          rw (← (here-same t), y, ← (a .task-same .entry t e))
+          (owner-same (awaited (taskAt s t .mode)) (λ p. home .waits t y p ∙ e)))
+          (λ n. rw (← (here-same t), n) refl)
+
+      end-same : (left t : ℕ) → l .of-task t ≡ g → chainEnd left s t ≡ chainEnd left u t
+      unfolding chainEnd
+      end-same zero t e = refl
+      end-same (suc left) t e =
+          rw (← (next-same t e))
+          (split
+          (ltb (next s t) places)
+          (λ y. rw y (end-same left (next s t) (next-home s home t (ltb-true _ _ y) ∙ e)))
+          (λ n. rw n refl))
+
+      pub served-same : (t : ℕ) → l .of-task t ≡ g → served s t ≡ served u t
+      unfolding served
+      served-same t e = end-same places t e
+
+      pub served-in : (t : ℕ) → l .of-task t ≡ g → l .of-task (served s t) ≡ g
+      served-in t e = served-home s home t ∙ e
+
+      pub executes-same : (x : ℕ) → l .of-task x ≡ g → executes s x ≡ executes u x
+      unfolding executes
+      executes-same x e = rw (running-same x e, ← (served-same x e), executor-of-same (served s x) (served-in x e)) refl
+
+    module _ (home : Homed l s) (other : Homed l u) where
+      -- a test on servers, with the test whether they serve a task of the group: on others' servers both fail
+      pub serves-same
+          : (p q : ℕ → Bool) (t : ℕ) → l .of-task t ≡ g → ((x : ℕ) → l .of-task x ≡ g → p x ≡ q x) →
+          (x : ℕ) → (p x && eqb (served s x) t) ≡ (q x && eqb (served u x) t)
+      serves-same p q t e same x =
+          split
+          (eqb (l .of-task x) g)
+          (λ y. let k = eqb-true (l .of-task x) g y in rw (same x k, served-same home x k) refl)
+          (λ n.
+          let no : l .of-task x ≡ l .of-task t → ⊥ = λ k. eqb-false (l .of-task x) g n (k ∙ e) in
+          serves-not s home (p x) t x no ∙ sym (serves-not u other (q x) t x no))
+
+      pub for-same : (t : ℕ) → l .of-task t ≡ g → (x : ℕ) → runningFor s t x ≡ runningFor u t x
+      unfolding runningFor
+      for-same t e = serves-same (runningAt s) (runningAt u) t e running-same
+
+      pub chosen-same : (t : ℕ) → l .of-task t ≡ g → chosen s t ≡ chosen u t
+      unfolding budgetAt
+      chosen-same t e =
+          chosen-alone s u t t (λ x k. for-same t e x) (λ x k h. ap (λ v. v .budget) (a .server-same .entry x (for-home s home t x h ∙ e)))
