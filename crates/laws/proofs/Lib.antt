@@ -9,4 +9,5 @@ pub mod Set
 pub mod Best
 pub mod Join
 pub mod Pigeonhole
+pub mod Ends
 pub mod Unique

@@ -20,7 +20,7 @@ use Rattle.model.specs.Shape.{Shaped}
 use Rattle.model.proofs.Chain.{here-below, served-below}
 use Rattle.model.proofs.Sound.{Each, Executor, Serves, Loose}
 use Rattle.model.proofs.RuleH.{settled-here, settled-served, settled-serves, settled-some}
-use Rattle.theory.proofs.Fields.{setTo-keeps}
+use Rattle.laws.proofs.Set.{setTo-keeps}
 use Rattle.theory.proofs.Frame.{Locks, Same, same-self, Alike, alike-locks}
 
 -- one server, by the clock and by whether the task that it serves is suspended

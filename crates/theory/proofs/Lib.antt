@@ -1,4 +1,3 @@
-pub mod Fields
 pub mod Frame
 pub mod Calm
 pub mod Leaves
@@ -6,7 +5,6 @@ pub mod Ready
 pub mod Stirs
 pub mod Serving
 pub mod Places
-pub mod Links
 pub mod Entries
 pub mod Touch
 pub mod Stacking

@@ -27,7 +27,8 @@ use Rattle.model.specs.Step.{crowded, tests, stateAfter}
 use Rattle.model.proofs.Chain.{here-below}
 use Rattle.model.proofs.Sound.{Seated}
 use Rattle.model.proofs.RuleH.{settled-running}
-use Rattle.theory.proofs.Fields.{set-keeps, setTo-keeps}
+use Rattle.laws.proofs.Lists.{set-keeps}
+use Rattle.laws.proofs.Set.{setTo-keeps}
 use Rattle.theory.proofs.Leaves.{heads-kept}
 use Rattle.model.proofs.Grounds.{Grounds}
 
