@@ -7,21 +7,18 @@ use Prim.Native.Nat.{ℕ, _+_, _<_, _≤_}
 use native.Mathlib.Omega.{arith}
 use lib.ListN.{length}
 use borrow.Author.Tests.{eq-eqb}
-use Rattle.laws.proofs.Cases.{split, and-right, and-both}
-use Rattle.laws.proofs.Set.{length-setTo}
-use Rattle.model.specs.declared.Runs.{Runs}
+use Rattle.laws.proofs.Cases.{and-right, and-both}
 use Rattle.model.specs.declared.Server.{Server}
-use Rattle.model.specs.declared.Task.{Task}
 use Rattle.model.specs.declared.State.{State}
-use Rattle.model.specs.State.{places, noTask, serverAt, taskAt, here, idle, recharging, suspended, served, runningAt, runningFor, executorOf, executing}
-use Rattle.model.specs.RuleH.{withRuns, settledTask, settled}
+use Rattle.model.specs.State.{serverAt, taskAt, here, idle, recharging, suspended, served, runningAt, runningFor, executorOf, executing}
+use Rattle.model.specs.RuleH.{settled}
 use Rattle.model.specs.Sound.{clockLimit}
 use Rattle.model.specs.Shape.{Shaped}
 use Rattle.model.proofs.Chain.{here-below, served-below}
 use Rattle.model.proofs.Sound.{Each, Executor, Serves, Loose}
 use Rattle.model.proofs.RuleH.{settled-here, settled-served, settled-serves, settled-some}
-use Rattle.laws.proofs.Set.{setTo-keeps}
-use Rattle.theory.proofs.Frame.{Locks, Same, same-self, Alike, alike-locks}
+use Rattle.theory.proofs.Frames.{settled-task, settled-field}
+use Rattle.theory.proofs.Alike.{Locks, Same, same-self, Alike, alike-locks}
 
 -- one server, by the clock and by whether the task that it serves is suspended
 pub record Fits (clock : ℕ) (asleep : Bool) (x : Server) : Type 0 where
@@ -125,20 +122,6 @@ calm-loose st h e s = record {
   accounts = λ i u. (h .executed i u, h .servers i u .spent);
 }
 
--- rule H leaves every field of a task but one
-pub settled-task
-    : (R : Task → Task → Type 0) → ((k : Task) → R k k) → ((x : Runs) (k : Task) → R (withRuns x k) k) → (old st : State) (acting t : ℕ)
-    → R (taskAt (settled old acting st) t) (taskAt st t)
-unfolding settled settledTask
-settled-task R self blind old st acting t =
-    setTo-keeps R noTask self places _ (st .task) t
-    (λ j. split (here st j) (λ h. rw h (blind _ (taskAt st j))) (λ n. rw n (self (taskAt st j))))
-
-pub settled-field
-    : {A : Type 0} (f : Task → A) → ((x : Runs) (k : Task) → f (withRuns x k) ≡ f k) → (old st : State) (acting t : ℕ)
-    → f (taskAt (settled old acting st) t) ≡ f (taskAt st t)
-settled-field f = settled-task (λ k l. f k ≡ f l) (λ k. refl)
-
 module _ (old st : State) (acting : ℕ) where
   abbrev after : State
   after = settled old acting st
@@ -165,16 +148,6 @@ module _ (old st : State) (acting : ℕ) where
     servers = λ i u. rw (settled-asleep i) (c .servers i (sym (settled-here old st acting i) ∙ u));
     locks = alike-locks after st settled-alike (c .locks);
     executed = λ i u. rw (settled-field (λ k. k .executed) (λ x k. refl) old st acting i) (c .executed i (sym (settled-here old st acting i) ∙ u));
-  }
-
-  pub settled-shaped : Shaped st → Shaped after
-  unfolding settled
-  settled-shaped s = record {
-    servers = s .servers;
-    tasks = length-setTo places _ (st .task) ∙ s .tasks;
-    resources = s .resources;
-    stacks = λ t l. settled-field (λ k. length (k .held)) (λ x k. refl) old st acting t ∙ s .stacks t l;
-    queues = s .queues;
   }
 
   -- rule H makes a calm state loose

@@ -15,7 +15,7 @@ use Rattle.model.specs.Shape.{Shaped}
 use Rattle.model.specs.Events.{withOwner, pushed, popped, granted, freed}
 use Rattle.model.specs.Step.{topOf}
 use Rattle.model.proofs.Chain.{here-below, present-below, same-served}
-use Rattle.theory.proofs.Frame.{Stacks, Queued}
+use Rattle.theory.proofs.Alike.{Stacks, Queued}
 use Rattle.theory.proofs.Calm.{asleep, Calm}
 use Rattle.theory.proofs.Ready.{unawaited}
 use Rattle.theory.proofs.Touch.{touched, touched-resource, touched-keeps, touched-declaration, touched-queues, touched-shaped}
@@ -95,13 +95,6 @@ module _
           (record { many = refl; line = refl })
           (take-stacks st shaped t r used known (c .locks .stacks) free may room)
 
-      pub grant-shaped : Shaped (granted st t r)
-      unfolding granted
-      grant-shaped =
-          touched-shaped st shaped t r used known _ _
-          (length-set (taskAt st t .held) _ _ ∙ shaped .stacks t (here-below st t used))
-          (shaped .queues r (present-below st r known))
-
     -- "with none waiting, freed"
     pub free-calm : ownerNo (resourceAt st r .owner) ≡ t → topOf st t ≡ r → 0 < taskAt st t .depth → Calm (freed st t r)
     unfolding freed
@@ -109,10 +102,3 @@ module _
         quiet-calm (popped (taskAt st t)) (withOwner Nobody (resourceAt st r)) refl refl refl
         (record { many = refl; line = refl })
         (give-stacks st shaped t r used known (c .locks .stacks) owns top some)
-
-    pub free-shaped : Shaped (freed st t r)
-    unfolding freed
-    free-shaped =
-        touched-shaped st shaped t r used known _ _
-        (length-set (taskAt st t .held) _ _ ∙ shaped .stacks t (here-below st t used))
-        (shaped .queues r (present-below st r known))

@@ -1,8 +1,9 @@
-pub mod Frame
+pub mod Alike
+pub mod Frames
+pub mod Outcomes
+pub mod Processors
 pub mod Calm
-pub mod Leaves
 pub mod Ready
-pub mod Stirs
 pub mod Serving
 pub mod Places
 pub mod Entries
@@ -12,9 +13,7 @@ pub mod Queueing
 pub mod Granting
 pub mod Waiting
 pub mod Passing
-pub mod Kept
-pub mod Seats
-pub mod Always
+pub mod Soundness
 pub mod Rules
 pub mod Accounts
 pub mod Ticks
@@ -46,5 +45,4 @@ pub mod Freeing
 pub mod Joining
 pub mod Through
 pub mod Handing
-pub mod Past
 pub mod Unread

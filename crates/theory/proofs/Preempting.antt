@@ -16,7 +16,7 @@ use Rattle.model.specs.Step.{stateAfter}
 use Rattle.model.proofs.Sound.{Loose}
 use Rattle.theory.proofs.Ready.{runs-for}
 use Rattle.model.proofs.Grounds.{Grounds}
-use Rattle.theory.proofs.Always.{served-executes}
+use Rattle.theory.proofs.Soundness.{served-executes}
 use Rattle.theory.proofs.Rules.{served-kept}
 use Rattle.theory.proofs.Steps.{nobody-serves, after-server, after-for, executor-chosen, executor-stays}
 use Rattle.theory.proofs.Readings.{for-running, rests-at}

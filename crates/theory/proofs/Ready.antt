@@ -18,7 +18,7 @@ use Rattle.model.specs.State.{places, serverAt, taskAt, resourceAt, here, prese
 use Rattle.model.specs.Sound.{queuedAt}
 use Rattle.model.proofs.Sound.{Loose}
 use Rattle.model.proofs.Room.{executing-waits}
-use Rattle.theory.proofs.Frame.{Queues}
+use Rattle.theory.proofs.Alike.{Queues}
 use Rattle.theory.proofs.Calm.{loose-locks}
 
 pub running-is : (p : Phase) → running p ≡ true → p ≡ Running

@@ -26,9 +26,9 @@ use Rattle.model.specs.Events.{runsOut}
 use Rattle.model.specs.Step.{crowded, affords, tests, answered, stateAfter, outcome, stepped}
 use Rattle.model.proofs.Sound.{Loose, sound-facts}
 use Rattle.model.proofs.Grounds.{Grounds, grounds, unrefused-free}
-use Rattle.theory.proofs.Kept.{outcome-has}
-use Rattle.theory.proofs.Always.{stepped-sound}
-use Rattle.theory.proofs.Rules.{stepped-unsound}
+use Rattle.theory.proofs.Outcomes.{outcome-has}
+use Rattle.theory.proofs.Outcomes.{stepped-sound}
+use Rattle.theory.proofs.Outcomes.{stepped-unsound}
 use Rattle.theory.proofs.Agree.{Labels, Agree, Homed, agree-sym, here-same, present-same, next-same, served-same, served-in, for-same}
 use Rattle.theory.proofs.Good.{Good}
 use Rattle.theory.proofs.Verdict.{kindBy, verdict, verdict-same}

@@ -11,10 +11,11 @@ use Rattle.laws.proofs.Count.{count-ext}
 use Rattle.model.specs.declared.Task.{Task}
 use Rattle.model.specs.declared.Resource.{Resource}
 use Rattle.model.specs.declared.State.{State}
-use Rattle.model.specs.State.{places, noResource, taskAt, resourceAt, inUse, inSet, here, present, declares, waiting, awaited, ownerNo, ownerOf, next, served}
+use Rattle.model.specs.State.{places, noResource, taskAt, resourceAt, inSet, here, present, declares, waiting, awaited, ownerNo, ownerOf, next, served}
 use Rattle.model.specs.Sound.{heldAt, queuedAt}
 use Rattle.model.proofs.Chain.{same-served, Open}
 use Rattle.model.proofs.Sound.{Each, EachResource, Declaration, Stack, Queue, Owned, Wait, Unqueued}
+use Rattle.theory.proofs.Frames.{heads-here, heads-present}
 
 -- the clauses on owners and stacks, and those on waits and queues
 pub record Stacks (st : State) : Type 0 where
@@ -53,23 +54,21 @@ pub record Queued (x y : Resource) : Type 0 where
   pub line : x .queue ≡ y .queue
 
 module _ (a b : State) (tasks : a .tasks ≡ b .tasks) (resources : a .resources ≡ b .resources) where
-  pub heads-here : (i : ℕ) → here a i ≡ here b i
-  unfolding here
-  heads-here i = ap (λ n. inUse n i) tasks
+  abbrev same-here : (i : ℕ) → here a i ≡ here b i
+  same-here = heads-here a b tasks resources
 
-  pub heads-present : (r : ℕ) → present a r ≡ present b r
-  unfolding present
-  heads-present r = ap (λ n. inUse n r) resources
+  abbrev same-present : (r : ℕ) → present a r ≡ present b r
+  same-present = heads-present a b tasks resources
 
   same-declares : (t r : ℕ) → taskAt a t .declared ≡ taskAt b t .declared → declares a t r ≡ declares b t r
   unfolding declares
   same-declares t r e = ap (λ d. inSet d r) e
 
   was-here : (i : ℕ) → here a i ≡ true → here b i ≡ true
-  was-here i u = sym (heads-here i) ∙ u
+  was-here i u = sym (same-here i) ∙ u
 
   was-present : (r : ℕ) → present a r ≡ true → present b r ≡ true
-  was-present r u = sym (heads-present r) ∙ u
+  was-present r u = sym (same-present r) ∙ u
 
   pub same-declaration : ((t : ℕ) → taskAt a t .declared ≡ taskAt b t .declared) → Each b (Declaration b) → Each a (Declaration a)
   same-declaration may d i u = rw (resources, may i) (d i (was-here i u))
@@ -84,9 +83,9 @@ module _ (a b : State) (tasks : a .tasks ≡ b .tasks) (resources : a .resources
     same-stacks l = record {
       stack = λ i u. (
         rw (task i .deep) (l .stack i (was-here i u) .0),
-        λ j m d. heads-present _ ∙ rw (task i .has) (l .stack i (was-here i u) .1 j m (rw (task i .deep) at d)),
+        λ j m d. same-present _ ∙ rw (task i .has) (l .stack i (was-here i u) .1 j m (rw (task i .deep) at d)),
       );
-      owner = λ r u o. heads-here _ ∙ rw (owner r) (l .owner r (was-present r u) (rw (owner r) at o));
+      owner = λ r u o. same-here _ ∙ rw (owner r) (l .owner r (was-present r u) (rw (owner r) at o));
       agree = λ t r u v. count-ext places _ _ (λ j m. same-held t r j) ∙ rw (owner r) (l .agree t r (was-here t u) (was-present r v));
       declared = λ t r u v e. same-declares t r (task t .may) ∙ l .declared t r (was-here t u) (was-present r v) (rw (owner r) at e);
     }
@@ -101,9 +100,9 @@ module _ (a b : State) (tasks : a .tasks ≡ b .tasks) (resources : a .resources
     same-queues l = record {
       queue = λ r u. (
         rw (resource r .many) (l .queue r (was-present r u) .0),
-        λ j m d. heads-here _ ∙ rw (resource r .line) (l .queue r (was-present r u) .1 j m (rw (resource r .many) at d)),
+        λ j m d. same-here _ ∙ rw (resource r .line) (l .queue r (was-present r u) .1 j m (rw (resource r .many) at d)),
       );
-      wait = λ i u w. heads-present _ ∙ rw (task i .wants) (l .wait i (was-here i u) (rw (task i .waits) at w));
+      wait = λ i u w. same-present _ ∙ rw (task i .wants) (l .wait i (was-here i u) (rw (task i .waits) at w));
       agree = λ t r u v. count-ext places _ _ (λ j m. same-queued r t j) ∙ rw (task t .wants) (l .agree t r (was-here t u) (was-present r v));
       declared = λ t r u v e. same-declares t r (task t .may) ∙ l .declared t r (was-here t u) (was-present r v) (rw (task t .wants) at e);
     }

@@ -1,0 +1,471 @@
+-- Frames: what an event can make of one server, of one task and of one resource, whatever the state. Each entry after the event's change stays as it
+-- was or is one of a few rewritings of itself (`ServerAfter`, `TaskAfter`, `ResourceAfter`), and it is rewritten only where the event reaches it
+-- (`ServerReached`, `TaskReached`, `ResourceReached`). What no rewriting touches no event touches: fields (`servers-left`, `tasks-left`), the counts
+-- (`heads-kept`), the arrays' sixteen places (`changed-shaped`). What no event reaches stays: entries past the counts (`past-kept`), and in
+-- Locality.antt the entries of other groups. Rule H writes one field of tasks (`settled-task`). Assumes nothing.
+use mathlib.Core.Path.{_≡_, refl, sym, ap, subst, _∙_}
+use mathlib.Core.Bool.{true, false, _||_, _&&_}
+use mathlib.Core.Logic.{_⊎_, inl, inr, ⊎-elim}
+use Prim.Native.Nat.{ℕ, _<_}
+use native.Mathlib.Omega.{arith}
+use lib.Dec.{eqb}
+use lib.ListN.{length, getD, set, length-set}
+use borrow.Author.Tests.{eqb-true, eqb-false}
+use Rattle.laws.specs.Loops.{setTo}
+use Rattle.laws.proofs.Cases.{split, holds-fails, if-yes, if-no, and-left, and-right}
+use Rattle.laws.proofs.Lists.{store-cases}
+use Rattle.laws.proofs.Set.{length-setTo, each-cases, setTo-keeps}
+use Rattle.model.specs.declared.TaskNo.{TaskNo}
+use Rattle.model.specs.declared.Phase.{Phase}
+use Rattle.model.specs.declared.Phase.the-variants.{Idle, Active, Running}
+use Rattle.model.specs.declared.Mode.{Mode}
+use Rattle.model.specs.declared.Mode.the-variants.{Suspended, Ready, Waiting}
+use Rattle.model.specs.declared.Runs.{Runs}
+use Rattle.model.specs.declared.Owner.the-variants.{Nobody, By}
+use Rattle.model.specs.declared.Server.{Server}
+use Rattle.model.specs.declared.Task.{Task}
+use Rattle.model.specs.declared.Resource.{Resource}
+use Rattle.model.specs.declared.State.{State}
+use Rattle.model.specs.declared.Event.{Event}
+use Rattle.model.specs.declared.Event.the-variants.{Wake, Suspend, Dispatch, Preempt, Elapse, Recharge, Lock, Unlock}
+use Rattle.model.specs.State.{places, noServer, noTask, noResource, serverAt, taskAt, resourceAt, inUse, here, present, idle, active, running, suspended, owned, served}
+use Rattle.model.specs.Shape.{Shaped}
+use Rattle.model.specs.RuleH.{withRuns, settledTask, settled}
+use Rattle.model.specs.Events.{withServer, withTask, withPhase, refilled, withMode, serverBy, eachServer, wakes, wokenServer, woken, rests, restedServer, rested, slept, phased, spentServer, tickedTask, taskBy, elapsed, rechargedPhase, recharged, pushed, popped, withOwner, enqueued, shifted, dequeued, firstWaiter, granted, joined, restedEnd, locked, freed, passed, unlocked, changed, acting}
+use Rattle.model.specs.Step.{stateAfter}
+use Rattle.model.proofs.Grounds.{Grounds}
+use Rattle.model.proofs.Room.{first-here}
+use Rattle.model.proofs.Sound.{Loose}
+
+module _ (a b : State) (tasks : a .tasks ≡ b .tasks) (resources : a .resources ≡ b .resources) where
+  pub heads-here : (i : ℕ) → here a i ≡ here b i
+  unfolding here
+  heads-here i = ap (λ n. inUse n i) tasks
+
+  pub heads-present : (r : ℕ) → present a r ≡ present b r
+  unfolding present
+  heads-present r = ap (λ n. inUse n r) resources
+
+-- rule H leaves every field of a task but one
+pub settled-task
+    : (R : Task → Task → Type 0) → ((k : Task) → R k k) → ((x : Runs) (k : Task) → R (withRuns x k) k) → (old st : State) (acting t : ℕ)
+    → R (taskAt (settled old acting st) t) (taskAt st t)
+unfolding settled settledTask
+settled-task R self blind old st acting t =
+    setTo-keeps R noTask self places _ (st .task) t
+    (λ j. split (here st j) (λ h. rw h (blind _ (taskAt st j))) (λ n. rw n (self (taskAt st j))))
+
+pub settled-field
+    : {A : Type 0} (f : Task → A) → ((x : Runs) (k : Task) → f (withRuns x k) ≡ f k) → (old st : State) (acting t : ℕ)
+    → f (taskAt (settled old acting st) t) ≡ f (taskAt st t)
+settled-field f = settled-task (λ k l. f k ≡ f l) (λ k. refl)
+
+-- the counts: nobody writes them
+abbrev pub Heads : State → State → Type 0
+Heads a b = (a .processors ≡ b .processors) × (a .tasks ≡ b .tasks) × (a .resources ≡ b .resources)
+
+rested-heads : (st : State) (t : ℕ) → Heads (restedEnd st t) st
+unfolding restedEnd rested eachServer
+rested-heads st t = split (suspended (taskAt st (served st t) .mode)) (λ y. rw y (refl, refl, refl)) (λ n. rw n (refl, refl, refl))
+
+pub heads-kept : (st : State) (e : Event) → Heads (changed st e) st
+unfolding woken slept rested phased elapsed recharged eachServer locked unlocked granted joined freed passed
+heads-kept st (Wake t) = (refl, refl, refl)
+heads-kept st (Suspend t) = (refl, refl, refl)
+heads-kept st (Dispatch s) = (refl, refl, refl)
+heads-kept st (Preempt s) = (refl, refl, refl)
+heads-kept st (Elapse n) = (refl, refl, refl)
+heads-kept st (Recharge s) = (refl, refl, refl)
+heads-kept st (Lock t r) =
+    split (owned (resourceAt st r .owner)) (λ y. rw y (rested-heads (joined st (t .0) r) (t .0))) (λ n. rw n (refl, refl, refl))
+heads-kept st (Unlock t r) = split (eqb (resourceAt st r .waiting) 0) (λ y. rw y (refl, refl, refl)) (λ n. rw n (refl, refl, refl))
+
+-- which entries an event reaches
+abbrev pub ServerReached : State → Event → ℕ → Type 0
+ServerReached st (Wake t) i = (here st i ≡ true) × (served st i ≡ t .0)
+ServerReached st (Suspend t) i = (here st i ≡ true) × (served st i ≡ t .0)
+ServerReached st (Dispatch s) i = i ≡ s .0
+ServerReached st (Preempt s) i = i ≡ s .0
+ServerReached st (Elapse n) i = here st i ≡ true
+ServerReached st (Recharge s) i = i ≡ s .0
+ServerReached st (Lock t r) i = (here st i ≡ true) × (served (joined st (t .0) r) i ≡ served (joined st (t .0) r) (t .0))
+ServerReached st (Unlock t r) i = ⊥
+
+abbrev pub TaskReached : State → Event → ℕ → Type 0
+TaskReached st (Wake t) i = i ≡ t .0
+TaskReached st (Suspend t) i = i ≡ t .0
+TaskReached st (Dispatch s) i = ⊥
+TaskReached st (Preempt s) i = ⊥
+TaskReached st (Elapse n) i = here st i ≡ true
+TaskReached st (Recharge s) i = ⊥
+TaskReached st (Lock t r) i = i ≡ t .0
+TaskReached st (Unlock t r) i = (i ≡ t .0) ⊎ ((0 < resourceAt st r .waiting) × (i ≡ firstWaiter (resourceAt st r)))
+
+abbrev pub ResourceReached : Event → ℕ → Type 0
+ResourceReached (Wake t) q = ⊥
+ResourceReached (Suspend t) q = ⊥
+ResourceReached (Dispatch s) q = ⊥
+ResourceReached (Preempt s) q = ⊥
+ResourceReached (Elapse n) q = ⊥
+ResourceReached (Recharge s) q = ⊥
+ResourceReached (Lock t r) q = q ≡ r
+ResourceReached (Unlock t r) q = q ≡ r
+
+-- what it makes of them
+pub data ServerAfter (st : State) (e : Event) (i : ℕ) (x : Server) : Type 0 where
+  server-stays : x ≡ serverAt st i → ServerAfter st e i x
+  in-phase
+      : (p : Phase) → x ≡ withPhase p (serverAt st i) → (running p ≡ true → e ≡ Dispatch (record { 0 = i })) → ServerReached st e i → ServerAfter st e i x
+  refills : (p : Phase) → x ≡ refilled p (st .clock) (serverAt st i) → running p ≡ false → ServerReached st e i → ServerAfter st e i x
+  spends : (n : ℕ) → x ≡ spentServer st n i → e ≡ Elapse n → ServerReached st e i → ServerAfter st e i x
+
+pub data TaskAfter (st : State) (e : Event) (i : ℕ) (x : Task) : Type 0 where
+  task-stays : x ≡ taskAt st i → TaskAfter st e i x
+  wakes-up : x ≡ withMode Ready (taskAt st i) → TaskReached st e i → TaskAfter st e i x
+  sleeps : x ≡ withMode Suspended (taskAt st i) → TaskReached st e i → TaskAfter st e i x
+  waits : (t : TaskNo) (r : ℕ) → x ≡ withMode (Waiting r) (taskAt st i) → e ≡ Lock t r → i ≡ t .0 → TaskReached st e i → TaskAfter st e i x
+  takes : (r : ℕ) → x ≡ pushed r (taskAt st i) → TaskReached st e i → TaskAfter st e i x
+  inherits : (r : ℕ) → x ≡ pushed r (withMode Ready (taskAt st i)) → TaskReached st e i → TaskAfter st e i x
+  gives : x ≡ popped (taskAt st i) → TaskReached st e i → TaskAfter st e i x
+  ticks : (n : ℕ) → x ≡ tickedTask st n i → e ≡ Elapse n → TaskReached st e i → TaskAfter st e i x
+
+pub data ResourceAfter (st : State) (e : Event) (q : ℕ) (x : Resource) : Type 0 where
+  resource-stays : x ≡ resourceAt st q → ResourceAfter st e q x
+  queued : (t : TaskNo) → x ≡ enqueued (t .0) (resourceAt st q) → e ≡ Lock t q → ResourceAfter st e q x
+  owned-by : (t : TaskNo) → x ≡ withOwner (By (record { 0 = t .0 })) (resourceAt st q) → e ≡ Lock t q → ResourceAfter st e q x
+  given-up : (t : TaskNo) → x ≡ withOwner Nobody (resourceAt st q) → e ≡ Unlock t q → ResourceAfter st e q x
+  passed-on
+      : (t : TaskNo) → x ≡ withOwner (By (record { 0 = firstWaiter (resourceAt st q) })) (dequeued (resourceAt st q))
+      → e ≡ Unlock t q → 0 < resourceAt st q .waiting → ResourceAfter st e q x
+
+-- servers
+rests-serves : (u : State) (t i : ℕ) → rests u t i ≡ true → served u i ≡ t
+unfolding rests
+rests-serves u t i y = eqb-true _ t (and-right (here u i && (active (serverAt u i .phase) || running (serverAt u i .phase))) _ y)
+
+wakes-serves : (u : State) (t i : ℕ) → wakes u t i ≡ true → served u i ≡ t
+unfolding wakes
+wakes-serves u t i y = eqb-true _ t (and-right (here u i && idle (serverAt u i .phase)) _ y)
+
+rest-cases
+    : (u : State) (t i : ℕ)
+    → (serverAt (rested u t) i ≡ serverAt u i) ⊎ ((serverAt (rested u t) i ≡ withPhase Idle (serverAt u i)) × (here u i ≡ true) × (served u i ≡ t))
+unfolding rested eachServer serverBy restedServer
+rest-cases u t i =
+    ⊎-elim
+    (λ c.
+    split
+    (here u i)
+    (λ h. split (rests u t i) (λ y. inr (c ∙ rw (h, y), h, rests-serves u t i y)) (λ n. inl (c ∙ rw (h, n))))
+    (λ n. inl (c ∙ rw n)))
+    (λ c. inl c)
+    (each-cases places (serverBy u (restedServer u t)) (u .server) noServer i)
+
+module _ (st : State) where
+  each-after
+      : (e : Event) (f : ℕ → Server) → ((s : ℕ) → here st s ≡ true → ServerAfter st e s (f s)) → (i : ℕ) → ServerAfter st e i (serverAt (eachServer st f) i)
+  unfolding eachServer serverBy
+  each-after e f new i =
+      ⊎-elim
+      (λ c.
+      split
+      (here st i)
+      (λ h. subst (ServerAfter st e i) (sym (c ∙ if-yes _ _ _ h)) (new i h))
+      (λ n. server-stays (c ∙ if-no _ _ _ n)))
+      (λ c. server-stays c)
+      (each-cases places (serverBy st f) (st .server) noServer i)
+
+  put-after : (e : Event) (s : ℕ) (x : Server) → ServerAfter st e s x → (i : ℕ) → ServerAfter st e i (serverAt (withServer s x st) i)
+  put-after e s x new i = ⊎-elim (λ c. rw (c .1, c .0) new) (λ c. server-stays c) (store-cases (st .server) s x noServer i)
+
+  woken-after : (t : TaskNo) (s : ℕ) → here st s ≡ true → ServerAfter st (Wake t) s (wokenServer st (t .0) s)
+  unfolding wokenServer
+  woken-after t s h =
+      split (wakes st (t .0) s) (λ y. refills Active (rw y) refl (h, wakes-serves st (t .0) s y)) (λ n. server-stays (rw n))
+
+  rested-after : (t : TaskNo) (r i : ℕ) → ServerAfter st (Lock t r) i (serverAt (restedEnd (joined st (t .0) r) (t .0)) i)
+  unfolding restedEnd joined here
+  rested-after t r i =
+      split
+      (suspended (taskAt (joined st (t .0) r) (served (joined st (t .0) r) (t .0)) .mode))
+      (λ y.
+      rw y
+      (⊎-elim
+      (λ c. server-stays c)
+      (λ c. in-phase Idle (c .0) (λ z. holds-fails z refl) (c .1, c .2))
+      (rest-cases (joined st (t .0) r) (served (joined st (t .0) r) (t .0)) i)))
+      (λ n. rw n (server-stays refl))
+
+  pub server-after : (e : Event) (i : ℕ) → ServerAfter st e i (serverAt (changed st e) i)
+  unfolding woken slept phased elapsed recharged rechargedPhase locked unlocked granted freed passed
+  server-after (Wake t) i = each-after (Wake t) (wokenServer st (t .0)) (woken-after t) i
+  server-after (Suspend t) i =
+      ⊎-elim (λ c. server-stays c) (λ c. in-phase Idle (c .0) (λ z. holds-fails z refl) (c .1, c .2)) (rest-cases st (t .0) i)
+  server-after (Dispatch s) i = put-after (Dispatch s) (s .0) _ (in-phase Running refl (λ z. refl) refl) i
+  server-after (Preempt s) i = put-after (Preempt s) (s .0) _ (in-phase Active refl (λ z. holds-fails z refl) refl) i
+  server-after (Elapse n) i = each-after (Elapse n) (spentServer st n) (λ s h. spends n refl refl h) i
+  server-after (Recharge s) i =
+      put-after (Recharge s) (s .0) _
+      (refills (rechargedPhase st (s .0)) refl (split (suspended (taskAt st (served st (s .0)) .mode)) (λ y. rw y) (λ n. rw n)) refl)
+      i
+  server-after (Lock t r) i =
+      split (owned (resourceAt st r .owner)) (λ y. rw y (rested-after t r i)) (λ n. rw n (server-stays refl))
+  server-after (Unlock t r) i = split (eqb (resourceAt st r .waiting) 0) (λ y. rw y (server-stays refl)) (λ n. rw n (server-stays refl))
+
+  -- tasks
+  keep-after : (e : Event) (t : ℕ) (x : Task) → TaskAfter st e t x → (i : ℕ) → TaskAfter st e i (taskAt (withTask t x st) i)
+  keep-after e t x new i = ⊎-elim (λ c. rw (c .1, c .0) new) (λ c. task-stays c) (store-cases (st .task) t x noTask i)
+
+  joined-after : (t : TaskNo) (r i : ℕ) → TaskAfter st (Lock t r) i (taskAt (restedEnd (joined st (t .0) r) (t .0)) i)
+  unfolding restedEnd rested eachServer joined
+  joined-after t r i =
+      let new = keep-after (Lock t r) (t .0) (withMode (Waiting r) (taskAt st (t .0))) (waits t r refl refl refl refl) i in
+      split (suspended (taskAt (joined st (t .0) r) (served (joined st (t .0) r) (t .0)) .mode)) (λ y. rw y new) (λ n. rw n new)
+
+  passed-after
+      : (t : TaskNo) (r i : ℕ) → 0 < resourceAt st r .waiting → TaskAfter st (Unlock t r) i (taskAt (passed st (t .0) r (firstWaiter (resourceAt st r))) i)
+  unfolding passed
+  passed-after t r i some =
+      let h : ℕ = firstWaiter (resourceAt st r) in
+      ⊎-elim
+      (λ c. rw (c .1, c .0) (inherits r refl (inr (some, refl))))
+      (λ c. subst (TaskAfter st (Unlock t r) i) (sym c) (keep-after (Unlock t r) (t .0) (popped (taskAt st (t .0))) (gives refl (inl refl)) i))
+      (store-cases (set (st .task) (t .0) (popped (taskAt st (t .0)))) h (pushed r (withMode Ready (taskAt st h))) noTask i)
+
+  ticked-after : (n i : ℕ) → TaskAfter st (Elapse n) i (taskAt (elapsed st n) i)
+  unfolding elapsed eachServer taskBy
+  ticked-after n i =
+      ⊎-elim
+      (λ c. split (here st i) (λ h. ticks n (c ∙ if-yes _ _ _ h) refl h) (λ m. task-stays (c ∙ if-no _ _ _ m)))
+      (λ c. task-stays c)
+      (each-cases places (taskBy st (tickedTask st n)) (st .task) noTask i)
+
+  pub task-after : (e : Event) (i : ℕ) → TaskAfter st e i (taskAt (changed st e) i)
+  unfolding woken slept rested eachServer phased recharged locked unlocked granted freed
+  task-after (Wake t) i = keep-after (Wake t) (t .0) _ (wakes-up refl refl) i
+  task-after (Suspend t) i = keep-after (Suspend t) (t .0) _ (sleeps refl refl) i
+  task-after (Dispatch s) i = task-stays refl
+  task-after (Preempt s) i = task-stays refl
+  task-after (Elapse n) i = ticked-after n i
+  task-after (Recharge s) i = task-stays refl
+  task-after (Lock t r) i =
+      split
+      (owned (resourceAt st r .owner))
+      (λ y. rw y (joined-after t r i))
+      (λ n. rw n (keep-after (Lock t r) (t .0) _ (takes r refl refl) i))
+  task-after (Unlock t r) i =
+      split
+      (eqb (resourceAt st r .waiting) 0)
+      (λ y. rw y (keep-after (Unlock t r) (t .0) _ (gives refl (inl refl)) i))
+      (λ n. rw n (passed-after t r i (omega (arith, eqb-false (resourceAt st r .waiting) 0 n))))
+
+  -- resources
+  own-after : (e : Event) (r : ℕ) (x : Resource) → ResourceAfter st e r x → (q : ℕ) → ResourceAfter st e q (getD (set (st .resource) r x) q noResource)
+  own-after e r x new q = ⊎-elim (λ c. rw (c .1, c .0) new) (λ c. resource-stays c) (store-cases (st .resource) r x noResource q)
+
+  queued-after : (t : TaskNo) (r q : ℕ) → ResourceAfter st (Lock t r) q (resourceAt (restedEnd (joined st (t .0) r) (t .0)) q)
+  unfolding restedEnd rested eachServer joined
+  queued-after t r q =
+      let new = own-after (Lock t r) r (enqueued (t .0) (resourceAt st r)) (queued t refl refl) q in
+      split (suspended (taskAt (joined st (t .0) r) (served (joined st (t .0) r) (t .0)) .mode)) (λ y. rw y new) (λ n. rw n new)
+
+  pub resource-after : (e : Event) (q : ℕ) → ResourceAfter st e q (resourceAt (changed st e) q)
+  unfolding woken slept rested eachServer phased elapsed recharged locked unlocked granted freed passed
+  resource-after (Wake t) q = resource-stays refl
+  resource-after (Suspend t) q = resource-stays refl
+  resource-after (Dispatch s) q = resource-stays refl
+  resource-after (Preempt s) q = resource-stays refl
+  resource-after (Elapse n) q = resource-stays refl
+  resource-after (Recharge s) q = resource-stays refl
+  resource-after (Lock t r) q =
+      split
+      (owned (resourceAt st r .owner))
+      (λ y. rw y (queued-after t r q))
+      (λ n. rw n (own-after (Lock t r) r _ (owned-by t refl refl) q))
+  resource-after (Unlock t r) q =
+      split
+      (eqb (resourceAt st r .waiting) 0)
+      (λ y. rw y (own-after (Unlock t r) r _ (given-up t refl refl) q))
+      (λ n. rw n (own-after (Unlock t r) r _ (passed-on t refl refl (omega (arith, eqb-false (resourceAt st r .waiting) 0 n))) q))
+
+-- what no rewriting touches: a field of servers that sees neither phase nor budget and deadline,
+module _
+    {A : Type 0}
+    (f : Server → A)
+    (phase : (p : Phase) (x : Server) → f (withPhase p x) ≡ f x)
+    (refill : (p : Phase) (clock : ℕ) (x : Server) → f (refilled p clock x) ≡ f x)
+    (st : State)
+    (e : Event)
+    (spent : (n s : ℕ) → e ≡ Elapse n → f (spentServer st n s) ≡ f (serverAt st s))
+    (i : ℕ)
+  where
+    server-left : (x : Server) → ServerAfter st e i x → f x ≡ f (serverAt st i)
+    server-left x (server-stays q) = ap f q
+    server-left x (in-phase p q d k) = ap f q ∙ phase p (serverAt st i)
+    server-left x (refills p q n k) = ap f q ∙ refill p (st .clock) (serverAt st i)
+    server-left x (spends n q d k) = ap f q ∙ spent n i d
+
+    pub servers-left : f (serverAt (stateAfter st e) i) ≡ f (serverAt st i)
+    unfolding stateAfter settled
+    servers-left = server-left _ (server-after st e i)
+
+-- a field of tasks that sees neither mode nor stack (nor where it executes),
+module _
+    {A : Type 0}
+    (f : Task → A)
+    (mode : (m : Mode) (k : Task) → f (withMode m k) ≡ f k)
+    (push : (r : ℕ) (k : Task) → f (pushed r k) ≡ f k)
+    (pop : (k : Task) → f (popped k) ≡ f k)
+  where
+    module _ (st : State) (e : Event) (ticked : (n t : ℕ) → e ≡ Elapse n → f (tickedTask st n t) ≡ f (taskAt st t)) (i : ℕ) where
+      task-left : (x : Task) → TaskAfter st e i x → f x ≡ f (taskAt st i)
+      task-left x (task-stays q) = ap f q
+      task-left x (wakes-up q k) = ap f q ∙ mode Ready (taskAt st i)
+      task-left x (sleeps q k) = ap f q ∙ mode Suspended (taskAt st i)
+      task-left x (waits t r q d g k) = ap f q ∙ mode (Waiting r) (taskAt st i)
+      task-left x (takes r q k) = ap f q ∙ push r (taskAt st i)
+      task-left x (inherits r q k) = ap f q ∙ push r (withMode Ready (taskAt st i)) ∙ mode Ready (taskAt st i)
+      task-left x (gives q k) = ap f q ∙ pop (taskAt st i)
+      task-left x (ticks n q d k) = ap f q ∙ ticked n i d
+
+      pub tasks-changed : f (taskAt (changed st e) i) ≡ f (taskAt st i)
+      tasks-changed = task-left _ (task-after st e i)
+
+    pub tasks-left
+        : ((x : Runs) (k : Task) → f (withRuns x k) ≡ f k) → (st : State) (e : Event)
+        → ((n t : ℕ) → e ≡ Elapse n → f (tickedTask st n t) ≡ f (taskAt st t)) → (i : ℕ) → f (taskAt (stateAfter st e) i) ≡ f (taskAt st i)
+    unfolding stateAfter
+    tasks-left runs st e ticked i = settled-field f runs st (changed st e) (acting st e) i ∙ tasks-changed st e ticked i
+
+-- so no event changes what is declared
+pub declared-kept : (st : State) (e : Event) (t : ℕ) → taskAt (stateAfter st e) t .declared ≡ taskAt st t .declared
+unfolding tickedTask
+declared-kept st e t = tasks-left (λ k. k .declared) (λ m k. refl) (λ r k. refl) (λ k. refl) (λ x k. refl) st e (λ n i d. refl) t
+
+-- and the length of every array
+queue-long : (st : State) (e : Event) (q : ℕ) (x : Resource) → ResourceAfter st e q x → length (x .queue) ≡ length (resourceAt st q .queue)
+unfolding shifted
+queue-long st e q x (resource-stays d) = ap (λ z. length (z .queue)) d
+queue-long st e q x (queued t d g) = ap (λ z. length (z .queue)) d ∙ length-set (resourceAt st q .queue) _ _
+queue-long st e q x (owned-by t d g) = ap (λ z. length (z .queue)) d
+queue-long st e q x (given-up t d g) = ap (λ z. length (z .queue)) d
+queue-long st e q x (passed-on t d g some) =
+    ap (λ z. length (z .queue)) d ∙ length-set (setTo _ _ (resourceAt st q .queue)) _ _ ∙ length-setTo _ _ (resourceAt st q .queue)
+
+abbrev Long : State → State → Type 0
+Long a b = (length (a .server) ≡ length (b .server)) × (length (a .task) ≡ length (b .task)) × (length (a .resource) ≡ length (b .resource))
+
+rested-long : (st : State) (t : ℕ) → Long (restedEnd st t) st
+unfolding restedEnd rested eachServer
+rested-long st t =
+    split (suspended (taskAt st (served st t) .mode)) (λ y. rw y (length-setTo places _ (st .server), refl, refl)) (λ n. rw n (refl, refl, refl))
+
+lists-long : (st : State) (e : Event) → Long (changed st e) st
+unfolding woken slept rested phased elapsed recharged eachServer locked unlocked granted joined freed passed
+lists-long st (Wake t) = (length-setTo places _ (st .server), length-set (st .task) _ _, refl)
+lists-long st (Suspend t) = (length-setTo places _ (st .server), length-set (st .task) _ _, refl)
+lists-long st (Dispatch s) = (length-set (st .server) _ _, refl, refl)
+lists-long st (Preempt s) = (length-set (st .server) _ _, refl, refl)
+lists-long st (Elapse n) = (length-setTo places _ (st .server), length-setTo places _ (st .task), refl)
+lists-long st (Recharge s) = (length-set (st .server) _ _, refl, refl)
+lists-long st (Lock t r) =
+    split
+    (owned (resourceAt st r .owner))
+    (λ y.
+    let m = rested-long (joined st (t .0) r) (t .0) in
+    rw y (m .0, m .1 ∙ length-set (st .task) _ _, m .2 ∙ length-set (st .resource) _ _))
+    (λ n. rw n (refl, length-set (st .task) _ _, length-set (st .resource) _ _))
+lists-long st (Unlock t r) =
+    split
+    (eqb (resourceAt st r .waiting) 0)
+    (λ y. rw y (refl, length-set (st .task) _ _, length-set (st .resource) _ _))
+    (λ n. rw n (refl, length-set (set (st .task) _ _) _ _ ∙ length-set (st .task) _ _, length-set (st .resource) _ _))
+
+pub changed-shaped : (st : State) → Shaped st → (e : Event) → Shaped (changed st e)
+unfolding tickedTask
+changed-shaped st s e = record {
+  servers = lists-long st e .0 ∙ s .servers;
+  tasks = lists-long st e .1 ∙ s .tasks;
+  resources = lists-long st e .2 ∙ s .resources;
+  stacks = λ t l.
+      tasks-changed (λ k. length (k .held)) (λ m k. refl) (λ r k. length-set (k .held) _ _) (λ k. length-set (k .held) _ _) st e (λ n i d. refl) t
+      ∙ s .stacks t l;
+  queues = λ q l. queue-long st e q _ (resource-after st e q) ∙ s .queues q l;
+}
+
+pub settled-shaped : (old st : State) (acting : ℕ) → Shaped st → Shaped (settled old acting st)
+unfolding settled
+settled-shaped old st acting s = record {
+  servers = s .servers;
+  tasks = length-setTo places _ (st .task) ∙ s .tasks;
+  resources = s .resources;
+  stacks = λ t l. settled-field (λ k. length (k .held)) (λ x k. refl) old st acting t ∙ s .stacks t l;
+  queues = s .queues;
+}
+
+-- what is not reached stays
+module _ (st : State) (e : Event) (i : ℕ) where
+  server-reached : {x : Server} → ServerAfter st e i x → (x ≡ serverAt st i) ⊎ ServerReached st e i
+  server-reached (server-stays q) = inl q
+  server-reached (in-phase p q d k) = inr k
+  server-reached (refills p q n k) = inr k
+  server-reached (spends n q d k) = inr k
+
+  pub server-or-reached : (serverAt (changed st e) i ≡ serverAt st i) ⊎ ServerReached st e i
+  server-or-reached = server-reached (server-after st e i)
+
+  task-reached : {x : Task} → TaskAfter st e i x → (x ≡ taskAt st i) ⊎ TaskReached st e i
+  task-reached (task-stays q) = inl q
+  task-reached (wakes-up q k) = inr k
+  task-reached (sleeps q k) = inr k
+  task-reached (waits t r q d g k) = inr k
+  task-reached (takes r q k) = inr k
+  task-reached (inherits r q k) = inr k
+  task-reached (gives q k) = inr k
+  task-reached (ticks n q d k) = inr k
+
+  pub task-or-reached : (taskAt (changed st e) i ≡ taskAt st i) ⊎ TaskReached st e i
+  task-or-reached = task-reached (task-after st e i)
+
+  resource-reached : {x : Resource} → ResourceAfter st e i x → (x ≡ resourceAt st i) ⊎ ResourceReached e i
+  resource-reached (resource-stays q) = inl q
+  resource-reached (queued t q d) = inr (subst (λ z. ResourceReached z i) (sym d) refl)
+  resource-reached (owned-by t q d) = inr (subst (λ z. ResourceReached z i) (sym d) refl)
+  resource-reached (given-up t q d) = inr (subst (λ z. ResourceReached z i) (sym d) refl)
+  resource-reached (passed-on t q d some) = inr (subst (λ z. ResourceReached z i) (sym d) refl)
+
+  pub resource-or-reached : (resourceAt (changed st e) i ≡ resourceAt st i) ⊎ ResourceReached e i
+  resource-or-reached = resource-reached (resource-after st e i)
+
+-- and what an accepted event reaches is in use
+module _ (st : State) where
+  pub server-here : (e : Event) (i : ℕ) → Grounds st e → ServerReached st e i → here st i ≡ true
+  server-here (Wake t) i g k = k .0
+  server-here (Suspend t) i g k = k .0
+  server-here (Dispatch s) i g k = ap (here st) k ∙ g .0
+  server-here (Preempt s) i g k = ap (here st) k ∙ g .0
+  server-here (Elapse n) i g k = k
+  server-here (Recharge s) i g k = ap (here st) k ∙ g .0
+  server-here (Lock t r) i g k = k .0
+  server-here (Unlock t r) i g k = absurd k
+
+  pub task-here : Loose st → (e : Event) (i : ℕ) → Grounds st e → TaskReached st e i → here st i ≡ true
+  task-here facts (Wake t) i g k = ap (here st) k ∙ g .0
+  task-here facts (Suspend t) i g k = ap (here st) k ∙ g .0
+  task-here facts (Dispatch s) i g k = absurd k
+  task-here facts (Preempt s) i g k = absurd k
+  task-here facts (Elapse n) i g k = k
+  task-here facts (Recharge s) i g k = absurd k
+  task-here facts (Lock t r) i g k = ap (here st) k ∙ g .0
+  task-here facts (Unlock t r) i g k =
+      ⊎-elim (λ q. ap (here st) q ∙ g .0) (λ h. ap (here st) (h .1) ∙ first-here st facts r (g .1) (h .0)) k
+
+  pub resource-here : (e : Event) (q : ℕ) → Grounds st e → ResourceReached e q → present st q ≡ true
+  resource-here (Wake t) q g k = absurd k
+  resource-here (Suspend t) q g k = absurd k
+  resource-here (Dispatch s) q g k = absurd k
+  resource-here (Preempt s) q g k = absurd k
+  resource-here (Elapse n) q g k = absurd k
+  resource-here (Recharge s) q g k = absurd k
+  resource-here (Lock t r) q g k = ap (present st) k ∙ g .1
+  resource-here (Unlock t r) q g k = ap (present st) k ∙ g .1
