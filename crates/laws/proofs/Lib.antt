@@ -10,4 +10,5 @@ pub mod Best
 pub mod Join
 pub mod Pigeonhole
 pub mod Ends
+pub mod SameAt
 pub mod Unique

@@ -80,6 +80,22 @@ heads-kept st (Lock t r) =
     split (owned (resourceAt st r .owner)) (λ y. rw y (rested-heads (joined st (t .0) r) (t .0))) (λ n. rw n (refl, refl, refl))
 heads-kept st (Unlock t r) = split (eqb (resourceAt st r .waiting) 0) (λ y. rw y (refl, refl, refl)) (λ n. rw n (refl, refl, refl))
 
+-- the clock: only an elapse moves it
+rested-clock : (st : State) (t : ℕ) → restedEnd st t .clock ≡ st .clock
+unfolding restedEnd rested eachServer
+rested-clock st t = split (suspended (taskAt st (served st t) .mode)) (λ y. rw y) (λ n. rw n)
+
+pub clock-kept : (st : State) (e : Event) → ((n : ℕ) → e ≡ Elapse n → ⊥) → changed st e .clock ≡ st .clock
+unfolding woken slept rested eachServer phased recharged locked unlocked granted joined freed passed
+clock-kept st (Wake t) other = refl
+clock-kept st (Suspend t) other = refl
+clock-kept st (Dispatch s) other = refl
+clock-kept st (Preempt s) other = refl
+clock-kept st (Elapse n) other = absurd (other n refl)
+clock-kept st (Recharge s) other = refl
+clock-kept st (Lock t r) other = split (owned (resourceAt st r .owner)) (λ y. rw y (rested-clock (joined st (t .0) r) (t .0))) (λ n. rw n)
+clock-kept st (Unlock t r) other = split (eqb (resourceAt st r .waiting) 0) (λ y. rw y) (λ n. rw n)
+
 -- which entries an event reaches
 abbrev pub ServerReached : State → Event → ℕ → Type 0
 ServerReached st (Wake t) i = (here st i ≡ true) × (served st i ≡ t .0)
@@ -88,7 +104,8 @@ ServerReached st (Dispatch s) i = i ≡ s .0
 ServerReached st (Preempt s) i = i ≡ s .0
 ServerReached st (Elapse n) i = here st i ≡ true
 ServerReached st (Recharge s) i = i ≡ s .0
-ServerReached st (Lock t r) i = (here st i ≡ true) × (served (joined st (t .0) r) i ≡ served (joined st (t .0) r) (t .0))
+ServerReached st (Lock t r) i =
+    (here st i ≡ true) × (owned (resourceAt st r .owner) ≡ true) × (served (joined st (t .0) r) i ≡ served (joined st (t .0) r) (t .0))
 ServerReached st (Unlock t r) i = ⊥
 
 abbrev pub TaskReached : State → Event → ℕ → Type 0
@@ -183,16 +200,16 @@ module _ (st : State) where
   woken-after t s h =
       split (wakes st (t .0) s) (λ y. refills Active (rw y) refl (h, wakes-serves st (t .0) s y)) (λ n. server-stays (rw n))
 
-  rested-after : (t : TaskNo) (r i : ℕ) → ServerAfter st (Lock t r) i (serverAt (restedEnd (joined st (t .0) r) (t .0)) i)
+  rested-after : (t : TaskNo) (r i : ℕ) → owned (resourceAt st r .owner) ≡ true → ServerAfter st (Lock t r) i (serverAt (restedEnd (joined st (t .0) r) (t .0)) i)
   unfolding restedEnd joined here
-  rested-after t r i =
+  rested-after t r i taken =
       split
       (suspended (taskAt (joined st (t .0) r) (served (joined st (t .0) r) (t .0)) .mode))
       (λ y.
       rw y
       (⊎-elim
       (λ c. server-stays c)
-      (λ c. in-phase Idle (c .0) (λ z. holds-fails z refl) (c .1, c .2))
+      (λ c. in-phase Idle (c .0) (λ z. holds-fails z refl) (c .1, taken, c .2))
       (rest-cases (joined st (t .0) r) (served (joined st (t .0) r) (t .0)) i)))
       (λ n. rw n (server-stays refl))
 
@@ -209,7 +226,7 @@ module _ (st : State) where
       (refills (rechargedPhase st (s .0)) refl (split (suspended (taskAt st (served st (s .0)) .mode)) (λ y. rw y) (λ n. rw n)) refl)
       i
   server-after (Lock t r) i =
-      split (owned (resourceAt st r .owner)) (λ y. rw y (rested-after t r i)) (λ n. rw n (server-stays refl))
+      split (owned (resourceAt st r .owner)) (λ y. rw y (rested-after t r i y)) (λ n. rw n (server-stays refl))
   server-after (Unlock t r) i = split (eqb (resourceAt st r .waiting) 0) (λ y. rw y (server-stays refl)) (λ n. rw n (server-stays refl))
 
   -- tasks

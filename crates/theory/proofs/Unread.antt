@@ -26,13 +26,10 @@ use Rattle.model.specs.Events.{runsOut}
 use Rattle.model.specs.Step.{crowded, affords, tests, answered, stateAfter, outcome, stepped}
 use Rattle.model.proofs.Sound.{Loose, sound-facts}
 use Rattle.model.proofs.Grounds.{Grounds, grounds, unrefused-free}
-use Rattle.theory.proofs.Outcomes.{outcome-has}
-use Rattle.theory.proofs.Outcomes.{stepped-sound}
-use Rattle.theory.proofs.Outcomes.{stepped-unsound}
-use Rattle.theory.proofs.Agree.{Labels, Agree, Homed, agree-sym, here-same, present-same, next-same, served-same, served-in, for-same}
-use Rattle.theory.proofs.Good.{Good}
-use Rattle.theory.proofs.Verdict.{kindBy, verdict, verdict-same}
-use Rattle.theory.proofs.Free.{after-same, answered-same}
+use Rattle.theory.proofs.Outcomes.{stepped-has, stepped-sound}
+use Rattle.theory.proofs.Agreement.{Labels, Agree, Homed, agree-sym, here-same, present-same, next-same, served-same, served-in, for-same, Good}
+use Rattle.theory.proofs.Locality.{kindBy, after-same}
+use Rattle.theory.proofs.Answers.{verdict, verdict-same, answered-same}
 use Rattle.theory.proofs.Steps.{after-here, after-present}
 
 -- what is in use has the label 0
@@ -226,11 +223,11 @@ module _ (l : Labels) (s u : State) (c : Covers l s) (a : Agree l 0 s u) (shaped
       let fu : verdict u e ≡ none = unrefused-free u e q in
       ⊎-elim
       (λ k.
-      let b = after-same l 0 s u a good fine e (ap (sees 0) k) fs fu in
+      let b = after-same l 0 s u a good fine e (ap (sees 0) k) (grounds s e fs) (grounds u e fu) in
       (told-time (stateAfter s e) (stateAfter u e) e k, b))
       (λ k.
-      let b = after-same l 0 s u a good fine e (ap (sees 0) k) fs fu in
-      (answered-same l 0 s u a good fine (stateAfter s e) (stateAfter u e) b (after-home e) e k fs, b))
+      let b = after-same l 0 s u a good fine e (ap (sees 0) k) (grounds s e fs) (grounds u e fu) in
+      (answered-same l 0 s u a good fine (stateAfter s e) (stateAfter u e) b (after-home e) e k (grounds s e fs), b))
       (kinds e (grounds s e fs))
   outcomes e (some n) p q = (refl, a)
 
@@ -251,18 +248,11 @@ unread l s u c a shaped other e =
     rw (n, m) (refl, a))
 
 -- what is in use is so after a step
-stepped-has : (P : State → Type 0) (st : State) (e : Event) → P st → P (stateAfter st e) → P (stepped st e .state)
-stepped-has P st e before after =
-    split
-    (sound st)
-    (λ y. rw (stepped-sound st e y) (outcome-has P (firstOf (tests st e)) st e before (λ h. after)))
-    (λ n. rw (stepped-unsound st e n) before)
-
 pub stepped-here : (st : State) (e : Event) (i : ℕ) → here (stepped st e .state) i ≡ here st i
-stepped-here st e i = stepped-has (λ x. here x i ≡ here st i) st e refl (after-here st e i)
+stepped-here st e i = stepped-has (λ x. here x i ≡ here st i) st e refl (λ y h. after-here st e i)
 
 pub stepped-present : (st : State) (e : Event) (r : ℕ) → present (stepped st e .state) r ≡ present st r
-stepped-present st e r = stepped-has (λ x. present x r ≡ present st r) st e refl (after-present st e r)
+stepped-present st e r = stepped-has (λ x. present x r ≡ present st r) st e refl (λ y h. after-present st e r)
 
 -- the labels that say what is in use
 module _ (st : State) where

@@ -1,76 +1,32 @@
--- Whether an event is refused, but for want of a processor, is its group's own matter; and what an accepted lock or unlock acts on. Assumes nothing.
+-- Whether an event is refused, but for want of a processor, and what it is answered are its group's own matter. Each test reads what the group reads;
+-- a lock of another group's resource is refused at 2, 3 or 4 before its owner is read, and an unlock of one is refused at 17 in either state, since
+-- what a task owns has its label. The answer is read from the states before and after, which agree on the group (Locality.antt). An elapse is
+-- no group's: its refusals and its answer speak of all servers. Assumes nothing.
 use mathlib.Core.Path.{_≡_, refl, sym, ap, _∙_}
-use mathlib.Core.Bool.{Bool, true, false, not}
-use mathlib.Core.List.{List, _∷_}
-use mathlib.Core.Option.{Option, none}
+use mathlib.Core.Bool.{true, false}
+use mathlib.Core.Option.{Option}
 use Prim.Native.Nat.{ℕ}
 use lib.Dec.{eqb}
-use borrow.Author.Tests.{eqb-true, eqb-false, not-false}
+use borrow.Author.Tests.{eqb-true, eqb-false}
 use Rattle.laws.specs.Tests.{firstOf, without}
-use Rattle.laws.proofs.Cases.{split, unheld-fails, none-some}
-use Rattle.reordering.specs.Order.{Kind, time, group}
+use Rattle.laws.proofs.Cases.{split, unheld-fails}
+use Rattle.laws.proofs.Count.{count-ext}
+use Rattle.reordering.specs.Order.{group}
 use Rattle.reordering.proofs.Local.{group-inj, time-group}
 use Rattle.model.specs.declared.State.{State}
 use Rattle.model.specs.declared.Event.{Event}
 use Rattle.model.specs.declared.Event.the-variants.{Wake, Suspend, Dispatch, Preempt, Elapse, Recharge, Lock, Unlock}
-use Rattle.model.specs.State.{resourceAt, here, present, declares, owned, ownerNo, executing}
-use Rattle.model.specs.Step.{tests, endsAt, topOf}
-use Rattle.theory.proofs.Agree.{Labels, Agree, here-same, present-same, executing-same, served-same}
-use Rattle.theory.proofs.Good.{Good, good-home}
-use Rattle.theory.proofs.Locks.{Acts}
-
--- what an event is to the order, by the labels
-abbrev pub kindBy : Labels → Event → Kind
-kindBy l (Wake t) = group (l .of-task (t .0))
-kindBy l (Suspend t) = group (l .of-task (t .0))
-kindBy l (Dispatch s) = group (l .of-task (s .0))
-kindBy l (Preempt s) = group (l .of-task (s .0))
-kindBy l (Elapse n) = time
-kindBy l (Recharge s) = group (l .of-task (s .0))
-kindBy l (Lock t r) = group (l .of-task (t .0))
-kindBy l (Unlock t r) = group (l .of-task (t .0))
+use Rattle.model.specs.declared.Answer.the-variants.{Ok}
+use Rattle.model.specs.State.{resourceAt, here, present, declares, owned, ownerNo, places, served}
+use Rattle.model.specs.Step.{tests, endsAt, topOf, answered}
+use Rattle.model.specs.Events.{wakes, rests}
+use Rattle.model.proofs.Grounds.{Grounds}
+use Rattle.theory.proofs.Agreement.{Labels, Agree, Homed, here-same, present-same, executing-same, executes-same, served-same, served-home, Good, good-home}
+use Rattle.theory.proofs.Locality.{kindBy, lock-label, unlock-label, owned-label, wakes-same, rests-same}
 
 -- the refusal, if there is one
 unfoldable pub verdict : State → Event → Option ℕ
 verdict st e = firstOf (without 8 (tests st e))
-
--- where nothing is given the first test fails, and the rest give nothing
-pub first-passed : (n : ℕ) (b : Bool) (ts : List (ℕ × Bool)) → firstOf ((n, b) ∷ ts) ≡ none → (b ≡ false) × (firstOf ts ≡ none)
-unfolding firstOf
-first-passed n b ts h = split b (λ y. none-some (sym (rw y at h))) (λ f. (f, rw f at h))
-
-module _ (l : Labels) (st : State) (good : Good l st) where
-  pub lock-acts : (t r : ℕ) → verdict st (Lock (record { 0 = t }) r) ≡ none → Acts l st t r
-  unfolding verdict without
-  lock-acts t r h =
-      let a = first-passed 2 (not (here st t)) _ h in
-      let b = first-passed 3 (not (present st r)) _ (a .1) in
-      let c = first-passed 4 (not (declares st t r)) _ (b .1) in
-      record {
-        actor = not-false _ (a .0);
-        used = not-false _ (b .0);
-        label = good .fits t r (not-false _ (a .0)) (not-false _ (b .0)) (not-false _ (c .0));
-      }
-
-  -- what t owns has its label
-  owned-label
-      : (t r : ℕ) → here st t ≡ true → present st r ≡ true → eqb (ownerNo (resourceAt st r .owner)) t ≡ true → l .of-resource r ≡ l .of-task t
-  owned-label t r h p o =
-      let q : ownerNo (resourceAt st r .owner) ≡ t = eqb-true _ t o in
-      good-home l st good .owns r p (rw q h) ∙ ap (l .of-task) q
-
-  pub unlock-acts : (t r : ℕ) → verdict st (Unlock (record { 0 = t }) r) ≡ none → Acts l st t r
-  unfolding verdict without
-  unlock-acts t r h =
-      let a = first-passed 2 (not (here st t)) _ h in
-      let b = first-passed 3 (not (present st r)) _ (a .1) in
-      let c = first-passed 6 (not (executing st t)) _ (b .1) in
-      let d = first-passed 17 (not (eqb (ownerNo (resourceAt st r .owner)) t)) _ (c .1) in
-      record {
-        actor = not-false _ (a .0);
-        used = not-false _ (b .0);
-        label = owned-label t r (not-false _ (a .0)) (not-false _ (b .0)) (not-false _ (d .0));
-      }
 
 module _ (l : Labels) (g : ℕ) (s u : State) (a : Agree l g s u) (good : Good l s) (fine : Good l u) where
   abbrev hs : (i : ℕ) → here s i ≡ here u i
@@ -80,7 +36,7 @@ module _ (l : Labels) (g : ℕ) (s u : State) (a : Agree l g s u) (good : Good l
   ps = present-same l g s u a
 
   -- the chain of a resource's owner
-  pub ends-same : (t r : ℕ) → present s r ≡ true → l .of-resource r ≡ g → endsAt s t r ≡ endsAt u t r
+  ends-same : (t r : ℕ) → present s r ≡ true → l .of-resource r ≡ g → endsAt s t r ≡ endsAt u t r
   unfolding endsAt
   ends-same t r p e =
       split
@@ -113,8 +69,8 @@ module _ (l : Labels) (g : ℕ) (s u : State) (a : Agree l g s u) (good : Good l
   unowned : (t r : ℕ) → l .of-task t ≡ g → here s t ≡ true → present s r ≡ true → (l .of-resource r ≡ g → ⊥) →
       (eqb (ownerNo (resourceAt s r .owner)) t ≡ false) × (eqb (ownerNo (resourceAt u r .owner)) t ≡ false)
   unowned t r e h p n = (
-    unheld-fails _ (λ y. n (owned-label l s good t r h p y ∙ e)),
-    unheld-fails _ (λ y. n (owned-label l u fine t r (sym (hs t) ∙ h) (sym (ps r) ∙ p) y ∙ e)),
+    unheld-fails _ (λ y. n (owned-label l s good t r h p (eqb-true _ t y) ∙ e)),
+    unheld-fails _ (λ y. n (owned-label l u fine t r (sym (hs t) ∙ h) (sym (ps r) ∙ p) (eqb-true _ t y) ∙ e)),
   )
 
   unlock-same : (t r : ℕ) → l .of-task t ≡ g → verdict s (Unlock (record { 0 = t }) r) ≡ verdict u (Unlock (record { 0 = t }) r)
@@ -145,3 +101,21 @@ module _ (l : Labels) (g : ℕ) (s u : State) (a : Agree l g s u) (good : Good l
   verdict-same (Recharge x) k = rw (hs (x .0), a .server-same .entry (x .0) (group-inj k), a .clock-same) refl
   verdict-same (Lock t r) k = lock-same (t .0) r (group-inj k)
   verdict-same (Unlock t r) k = unlock-same (t .0) r (group-inj k)
+
+  -- the answer, from states before and after that agree
+  pub answered-same
+      : (v w : State) → Agree l g v w → Homed l v → (e : Event) → kindBy l e ≡ group g → Grounds s e → answered s v e ≡ answered u w e
+  answered-same v w b later (Wake t) k o =
+      ap Ok (count-ext places (wakes s (t .0)) (wakes u (t .0)) (λ i m. wakes-same l g s u a (good-home l s good) (good-home l u fine) (t .0) (group-inj k) i))
+  answered-same v w b later (Suspend t) k o =
+      ap Ok (count-ext places (rests s (t .0)) (rests u (t .0)) (λ i m. rests-same l g s u a (good-home l s good) (good-home l u fine) (t .0) (group-inj k) i))
+  answered-same v w b later (Dispatch x) k o =
+      rw (executes-same l g v w b later (x .0) (group-inj k), served-same l g v w b later (x .0) (group-inj k)) refl
+  answered-same v w b later (Preempt x) k o =
+      let q = b .task-same .entry (served s (x .0)) (served-home l s (good-home l s good) (x .0) ∙ group-inj k) in
+      rw (executes-same l g s u a (good-home l s good) (x .0) (group-inj k), ← (served-same l g s u a (good-home l s good) (x .0) (group-inj k)), q) refl
+  answered-same v w b later (Elapse n) k o = absurd (time-group k)
+  answered-same v w b later (Recharge x) k o = rw (b .server-same .entry (x .0) (group-inj k)) refl
+  answered-same v w b later (Lock t r) k o =
+      rw (a .resource-same .entry r (lock-label l s good t r o ∙ group-inj k), served-same l g v w b later (t .0) (group-inj k)) refl
+  answered-same v w b later (Unlock t r) k o = rw (a .resource-same .entry r (unlock-label l s good t r o ∙ group-inj k)) refl
