@@ -11,4 +11,5 @@ pub mod Join
 pub mod Pigeonhole
 pub mod Ends
 pub mod SameAt
+pub mod Standing
 pub mod Unique
