@@ -28,6 +28,12 @@ Queues st =
     Standing 15 (here st) (present st) (λ r. resourceAt st r .waiting) (λ r j. getD (resourceAt st r .queue) j (record { 0 = 0 }) .0)
     (λ t. waiting (taskAt st t .mode)) (λ t. awaited (taskAt st t .mode)) (λ r t. declares st t r)
 
+-- nobody waits for a resource that has no queue
+pub unawaited
+    : (st : State) → Queues st → (r : ℕ) → present st r ≡ true → resourceAt st r .waiting ≡ 0
+    → (x : ℕ) → here st x ≡ true → awaited (taskAt st x .mode) ≡ r → ⊥
+unawaited st queues r p none x u e = omega (arith, points-some queues (present-below st) r x p u e)
+
 module _ (st : State) (s : Loose st) where
   pub loose-stacks : Stacks st
   unfolding heldAt

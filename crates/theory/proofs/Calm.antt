@@ -2,7 +2,7 @@
 -- `Loose` but who executes, and that is what rule H restores from any state. Assumes nothing.
 use mathlib.Core.Path.{_≡_, refl, sym, ap, _∙_}
 use mathlib.Core.Bool.{Bool, true}
-use mathlib.Core.Logic.{_⊎_, inl, inr, ⊎-elim}
+use mathlib.Core.Logic.{_⊎_, ⊎-elim}
 use Prim.Native.Nat.{ℕ, _+_, _<_, _≤_}
 use native.Mathlib.Omega.{arith}
 use lib.ListN.{length}
@@ -12,10 +12,11 @@ use Rattle.model.specs.declared.Server.{Server}
 use Rattle.model.specs.declared.State.{State}
 use Rattle.model.specs.State.{serverAt, taskAt, here, idle, recharging, suspended, served, runningAt, runningFor, executorOf, executing}
 use Rattle.model.specs.RuleH.{settled}
-use Rattle.model.specs.Sound.{clockLimit}
+use Rattle.model.specs.Sound.{clockLimit, heldAt, queuedAt}
 use Rattle.model.specs.Shape.{Shaped}
 use Rattle.model.proofs.Chain.{here-below, served-below}
 use Rattle.model.proofs.Sound.{Each, Executor, Serves, Loose}
+use Rattle.model.proofs.Room.{loose-stacks, loose-queues}
 use Rattle.model.proofs.RuleH.{settled-here, settled-served, settled-serves, settled-some}
 use Rattle.theory.proofs.Frames.{settled-task, settled-field}
 use Rattle.theory.proofs.Alike.{Locks, Same, same-self, Alike, alike-locks}
@@ -57,18 +58,8 @@ pub record Calm (st : State) : Type 0 where
 pub loose-locks : (st : State) → Loose st → Locks st
 loose-locks st h = record {
   declaration = h .declaration;
-  stacks = record {
-    stack = h .stack;
-    owner = h .owner;
-    agree = λ t r u p. h .agree t u .0 r p;
-    declared = λ t r u p e. h .declared t u r p (inl e);
-  };
-  queues = record {
-    queue = h .queue;
-    wait = h .wait;
-    agree = λ t r u p. h .agree t u .1 r p;
-    declared = λ t r u p e. h .declared t u r p (inr e);
-  };
+  stacks = loose-stacks st h;
+  queues = loose-queues st h;
   unqueued = h .unqueued;
   opens = h .opens;
 }
@@ -96,6 +87,7 @@ loose-calm st h = record {
 }
 
 pub calm-loose : (st : State) → Calm st → Each st (Executor st) → Each st (Serves st) → Loose st
+unfolding heldAt queuedAt
 calm-loose st h e s = record {
   processors-least = h .counts .processors-least;
   processors-most = h .counts .processors-most;
@@ -108,13 +100,13 @@ calm-loose st h e s = record {
   deadline = λ i u. h .servers i u .due;
   budget = λ i u. h .servers i u .within;
   empty = λ i u. h .servers i u .empty;
-  stack = h .locks .stacks .stack;
-  queue = h .locks .queues .queue;
-  owner = h .locks .stacks .owner;
-  wait = h .locks .queues .wait;
-  agree = λ t u. (λ r p. h .locks .stacks .agree t r u p, λ r p. h .locks .queues .agree t r u p);
+  stack = h .locks .stacks .filled;
+  queue = h .locks .queues .filled;
+  owner = h .locks .stacks .inside;
+  wait = h .locks .queues .inside;
+  agree = λ t u. (λ r p. h .locks .stacks .agree t r u p, λ r p. h .locks .queues .agree r t p u);
   unqueued = h .locks .unqueued;
-  declared = λ t u r p. ⊎-elim (h .locks .stacks .declared t r u p) (h .locks .queues .declared t r u p);
+  declared = λ t u r p. ⊎-elim (h .locks .stacks .allowed t r u p) (h .locks .queues .allowed r t p u);
   opens = h .locks .opens;
   idles = λ i u. h .servers i u .idles;
   executor = e;

@@ -11,8 +11,7 @@ use native.Mathlib.Omega.{arith}
 use lib.Dec.{eqb}
 use lib.ListN.{length, getD, set, length-set}
 use borrow.Author.Tests.{eqb-true, eqb-false}
-use Rattle.laws.specs.Loops.{setTo}
-use Rattle.laws.proofs.Cases.{split, holds-fails, if-yes, if-no, and-left, and-right}
+use Rattle.laws.proofs.Cases.{split, holds-fails, if-yes, if-no, and-right}
 use Rattle.laws.proofs.Lists.{store-cases}
 use Rattle.laws.proofs.Set.{length-setTo, each-cases, setTo-keeps}
 use Rattle.model.specs.declared.TaskNo.{TaskNo}
@@ -31,8 +30,9 @@ use Rattle.model.specs.declared.Event.the-variants.{Wake, Suspend, Dispatch, Pr
 use Rattle.model.specs.State.{places, noServer, noTask, noResource, serverAt, taskAt, resourceAt, inUse, here, present, idle, active, running, suspended, owned, served}
 use Rattle.model.specs.Shape.{Shaped}
 use Rattle.model.specs.RuleH.{withRuns, settledTask, settled}
-use Rattle.model.specs.Events.{withServer, withTask, withPhase, refilled, withMode, serverBy, eachServer, wakes, wokenServer, woken, rests, restedServer, rested, slept, phased, spentServer, tickedTask, taskBy, elapsed, rechargedPhase, recharged, pushed, popped, withOwner, enqueued, shifted, dequeued, firstWaiter, granted, joined, restedEnd, locked, freed, passed, unlocked, changed, acting}
+use Rattle.model.specs.Events.{withServer, withTask, withPhase, refilled, withMode, serverBy, eachServer, wakes, wokenServer, woken, rests, restedServer, rested, slept, phased, spentServer, tickedTask, taskBy, elapsed, rechargedPhase, recharged, pushed, popped, withOwner, enqueued, dequeued, firstWaiter, granted, joined, restedEnd, locked, freed, passed, unlocked, changed, acting}
 use Rattle.model.specs.Step.{stateAfter}
+use Rattle.model.proofs.Boxes.{dequeued-long}
 use Rattle.model.proofs.Grounds.{Grounds}
 use Rattle.model.proofs.Room.{first-here}
 use Rattle.model.proofs.Sound.{Loose}
@@ -361,13 +361,11 @@ declared-kept st e t = tasks-left (λ k. k .declared) (λ m k. refl) (λ r k. re
 
 -- and the length of every array
 queue-long : (st : State) (e : Event) (q : ℕ) (x : Resource) → ResourceAfter st e q x → length (x .queue) ≡ length (resourceAt st q .queue)
-unfolding shifted
 queue-long st e q x (resource-stays d) = ap (λ z. length (z .queue)) d
 queue-long st e q x (queued t d g) = ap (λ z. length (z .queue)) d ∙ length-set (resourceAt st q .queue) _ _
 queue-long st e q x (owned-by t d g) = ap (λ z. length (z .queue)) d
 queue-long st e q x (given-up t d g) = ap (λ z. length (z .queue)) d
-queue-long st e q x (passed-on t d g some) =
-    ap (λ z. length (z .queue)) d ∙ length-set (setTo _ _ (resourceAt st q .queue)) _ _ ∙ length-setTo _ _ (resourceAt st q .queue)
+queue-long st e q x (passed-on t d g some) = ap (λ z. length (z .queue)) d ∙ dequeued-long (resourceAt st q)
 
 abbrev Long : State → State → Type 0
 Long a b = (length (a .server) ≡ length (b .server)) × (length (a .task) ≡ length (b .task)) × (length (a .resource) ≡ length (b .resource))

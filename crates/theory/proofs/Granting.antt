@@ -3,8 +3,7 @@ use mathlib.Core.Path.{_≡_, refl, ap, _∙_}
 use mathlib.Core.Bool.{true, false}
 use Prim.Native.Nat.{ℕ, _<_}
 use lib.Dec.{eqb}
-use lib.ListN.{length-set}
-use borrow.Author.Tests.{ne-eqb}
+use borrow.Author.Tests.{eqb-true, eqb-false}
 use Rattle.laws.proofs.Cases.{split}
 use Rattle.model.specs.declared.Owner.the-variants.{Nobody, By}
 use Rattle.model.specs.declared.Task.{Task}
@@ -14,12 +13,10 @@ use Rattle.model.specs.State.{places, taskAt, resourceAt, here, present, declar
 use Rattle.model.specs.Shape.{Shaped}
 use Rattle.model.specs.Events.{withOwner, pushed, popped, granted, freed}
 use Rattle.model.specs.Step.{topOf}
-use Rattle.model.proofs.Chain.{here-below, present-below, same-served}
-use Rattle.theory.proofs.Alike.{Stacks, Queued}
+use Rattle.model.proofs.Chain.{same-served}
+use Rattle.model.proofs.Room.{Stacks, unawaited}
 use Rattle.theory.proofs.Calm.{asleep, Calm}
-use Rattle.theory.proofs.Ready.{unawaited}
-use Rattle.theory.proofs.Touch.{touched, touched-resource, touched-keeps, touched-declaration, touched-queues, touched-shaped}
-use Rattle.theory.proofs.Stacking.{take-stacks, give-stacks}
+use Rattle.theory.proofs.StacksAndQueues.{touched, task-field, resource-field, resource-other, touched-declaration, touched-queues, take-stacks, give-stacks}
 
 module _
     (st : State)
@@ -37,17 +34,18 @@ module _
         (mode : k .mode ≡ taskAt st t .mode)
         (executed : k .executed ≡ taskAt st t .executed)
         (declared : k .declared ≡ taskAt st t .declared)
-        (line : Queued x (resourceAt st r))
+        (many : x .waiting ≡ resourceAt st r .waiting)
+        (line : x .queue ≡ resourceAt st r .queue)
       where
         abbrev after : State
         after = touched st t r k x
 
         modes : (y : ℕ) → taskAt after y .mode ≡ taskAt st y .mode
-        modes = touched-keeps st shaped t r used known k x (λ a b. a .mode ≡ b .mode) (λ z. refl) mode
+        modes = task-field st shaped t r used known k x (λ z. z .mode) mode
 
         owners : (q : ℕ) → (q ≡ r → ⊥) → ownerOf after q ≡ ownerOf st q
         unfolding ownerOf present here
-        owners q n = rw (touched-resource st shaped t r used known k x q, ne-eqb q r n)
+        owners q n = rw (resource-other st shaped t r used known k x q n)
 
         pub quiet-next : (y : ℕ) → next after y ≡ next st y
         unfolding next here
@@ -72,18 +70,15 @@ module _
           locks = record {
             declaration = touched-declaration st shaped t r used known k x declared (c .locks .declaration);
             stacks = stacks;
-            queues =
-                touched-queues st shaped t r used known k x
-                (record { may = declared; wants = ap awaited mode; waits = ap waiting mode })
-                line
-                (c .locks .queues);
+            queues = touched-queues st shaped t r used known k x declared mode many line (c .locks .queues);
             unqueued = λ q p.
-                rw (touched-resource st shaped t r used known k x q)
-                (split (eqb q r) (λ e. rw e (λ o. line .many ∙ empty)) (λ n. rw n (c .locks .unqueued q p)));
+                split
+                (eqb q r)
+                (λ e o. ap (λ z. resourceAt after z .waiting) (eqb-true q r e) ∙ resource-field st shaped t r used known k x (λ z. z .waiting) many r ∙ empty)
+                (λ n. rw (resource-other st shaped t r used known k x q (eqb-false q r n)) (c .locks .unqueued q p));
             opens = λ i u. rw (quiet-served i, quiet-next (served st i)) (c .locks .opens i u);
           };
-          executed = λ i u.
-              rw (touched-keeps st shaped t r used known k x (λ a b. a .executed ≡ b .executed) (λ z. refl) executed i) (c .executed i u);
+          executed = λ i u. rw (task-field st shaped t r used known k x (λ z. z .executed) executed i) (c .executed i u);
         }
 
     -- "free: t owns it"
@@ -91,14 +86,12 @@ module _
       pub grant-calm : owned (resourceAt st r .owner) ≡ false → Calm (granted st t r)
       unfolding granted
       grant-calm free =
-          quiet-calm (pushed r (taskAt st t)) (withOwner (By (record { 0 = t })) (resourceAt st r)) refl refl refl
-          (record { many = refl; line = refl })
+          quiet-calm (pushed r (taskAt st t)) (withOwner (By (record { 0 = t })) (resourceAt st r)) refl refl refl refl refl
           (take-stacks st shaped t r used known (c .locks .stacks) free may room)
 
     -- "with none waiting, freed"
     pub free-calm : ownerNo (resourceAt st r .owner) ≡ t → topOf st t ≡ r → 0 < taskAt st t .depth → Calm (freed st t r)
     unfolding freed
     free-calm owns top some =
-        quiet-calm (popped (taskAt st t)) (withOwner Nobody (resourceAt st r)) refl refl refl
-        (record { many = refl; line = refl })
+        quiet-calm (popped (taskAt st t)) (withOwner Nobody (resourceAt st r)) refl refl refl refl refl
         (give-stacks st shaped t r used known (c .locks .stacks) owns top some)

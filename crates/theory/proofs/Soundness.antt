@@ -9,47 +9,43 @@ use mathlib.Core.Option.{some}
 use mathlib.Core.List.{List, [], _∷_}
 use Prim.Native.Nat.{ℕ, _<_}
 use native.Mathlib.Omega.{arith}
-use lib.Dec.{eqb, ltb}
-use borrow.Author.Tests.{eqb-true, eqb-false, eq-eqb, lt-ltb}
+use lib.Dec.{eqb}
+use borrow.Author.Tests.{eqb-true, eqb-false, eq-eqb}
 use Rattle.laws.specs.Tests.{firstOf, without, bit}
 use Rattle.laws.specs.Loops.{countTo}
 use Rattle.laws.proofs.Cases.{split, holds-fails, unheld-fails, and-left, and-right, and-both}
-use Rattle.laws.proofs.Count.{count-zero, count-some, count-but-one}
+use Rattle.laws.proofs.Count.{count-zero, count-but-one}
+use Rattle.laws.proofs.Standing.{stands-points}
 use Rattle.reordering.specs.Run.{after, log, Each, Never}
-use Rattle.model.specs.declared.Owner.{Owner}
-use Rattle.model.specs.declared.Owner.the-variants.{Nobody, By}
 use Rattle.model.specs.declared.TaskNo.{TaskNo}
 use Rattle.model.specs.declared.State.{State}
 use Rattle.model.specs.declared.Event.{Event}
 use Rattle.model.specs.declared.Event.the-variants.{Wake, Suspend, Dispatch, Preempt, Elapse, Recharge, Lock, Unlock}
 use Rattle.model.specs.declared.Table.{Table}
-use Rattle.model.specs.State.{places, taskAt, resourceAt, owned, ownerNo, served, here, present, placed, runningAt, runningFor, executorOf, executing, executes}
+use Rattle.model.specs.State.{places, taskAt, resourceAt, owned, ownerNo, served, here, placed, runningAt, runningFor, executorOf, executing, executes}
 use Rattle.model.specs.Shape.{Shaped}
 use Rattle.model.specs.Events.{firstWaiter, locked, unlocked, changed, acting}
 use Rattle.model.specs.Step.{endsAt, tests, stateAfter, free, stepped, move}
-use Rattle.model.specs.Sound.{heldAt, sound}
+use Rattle.model.specs.Sound.{sound}
 use Rattle.model.specs.Fresh.{freshState}
 use Rattle.model.proofs.Chain.{here-below, open-unclosed}
 use Rattle.model.proofs.Sound.{Loose, Sound, sound-facts}
-use Rattle.model.proofs.Room.{stack-room, queue-room, stack-held, first-here, first-waits, executing-waits}
+use Rattle.model.proofs.Room.{stack-room, queue-room, stack-held, first-here, first-waits, executing-waits, loose-stacks}
 use Rattle.model.proofs.Grounds.{Grounds, grounds, unrefused-free}
 use Rattle.model.proofs.RuleH.{serving-below}
 use Rattle.model.proofs.Fresh.{fresh-sound, fresh-shaped}
+use Rattle.model.proofs.Variants.{number-owned}
 use Rattle.theory.specs.Runs.{Accepted, reached, refusedBy, executesIn, Holds}
 use Rattle.theory.specs.Demand2.{Kept, SoundAlways, NeverUnsound, OneServer, ServersThatExecute, OneOwner, NoCycle}
 use Rattle.theory.proofs.Frames.{settled-shaped, changed-shaped}
 use Rattle.theory.proofs.Calm.{Calm, loose-calm, settled-loose}
-use Rattle.theory.proofs.Ready.{runs-ready, runs-ended, runs-for}
+use Rattle.theory.proofs.Executing.{runs-ready, runs-ended, runs-for}
 use Rattle.theory.proofs.Serving.{wake-calm, sleep-calm, dispatch-calm, preempt-calm, recharge-calm, elapse-calm}
 use Rattle.theory.proofs.Granting.{grant-calm, free-calm}
 use Rattle.theory.proofs.Waiting.{wait-calm}
 use Rattle.theory.proofs.Passing.{pass-calm}
 use Rattle.theory.proofs.Outcomes.{stepped-sound, outcome-has, outcome-not, no-test-1}
 use Rattle.theory.proofs.Processors.{seated-after}
-
-number-owned : (o : Owner) → ownerNo o < places → owned o ≡ true
-number-owned Nobody l = absurd (omega arith)
-number-owned (By t) l = refl
 
 module _ (st : State) (shaped : Shaped st) (facts : Loose st) where
   abbrev c : Calm st
@@ -172,16 +168,7 @@ no-cycle tb a es t j = open-unclosed (reached tb es) (facts-always tb a es .open
 -- at most one task owns a resource
 module _ (st : State) (facts : Loose st) where
   holder-owns : (t r : ℕ) → here st t ≡ true → Holds st t r → ownerNo (resourceAt st r .owner) ≡ t
-  unfolding heldAt
-  holder-owns t r u h =
-      let j = h .place in
-      let l : j < places = omega (arith, facts .stack t u .0, h .within) in
-      let p : present st r ≡ true = ap (present st) (sym (h .there)) ∙ facts .stack t u .1 j l (h .within) in
-      let one = count-some places j (heldAt st t r) l (and-both (ltb j (taskAt st t .depth)) _ (lt-ltb _ _ (h .within)) (eq-eqb _ r (h .there))) in
-      split
-      (eqb (ownerNo (resourceAt st r .owner)) t)
-      (λ y. eqb-true _ t y)
-      (λ n. absurd (omega (arith, one, facts .agree t u .0 r p, ap bit n)))
+  holder-owns t r u h = rw (← (h .there)) (stands-points (loose-stacks st facts) (here-below st) t (h .place) u (h .within))
 
   pub served-executes : (t s : ℕ) → here st t ≡ true → runningFor st t s ≡ true → executing st t ≡ true
   unfolding runningFor runningAt executing

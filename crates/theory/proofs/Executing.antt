@@ -1,38 +1,86 @@
--- More of demand 2, event by event: only a dispatch makes a server run, rule H's three steps after every accepted event, and which servers serve
--- the same task as before. Assumes nothing.
+-- Who executes. Of a loose state: a task that executes is ready and waits for nobody (`runs-ready`, `runs-ended`). After every accepted event: rule H's
+-- three steps, and no choice left (`rule-h`), from the laws of rule H on the state after the change, which is shaped. And where nobody comes to wait
+-- or stops waiting every server serves the task that it served (`served-kept`): the six events of tasks and servers make states that are alike to
+-- chains, a grant and a release with nobody waiting change no link. Leans on Frames, Alike, Serving and Granting. Assumes nothing.
 use mathlib.Core.Path.{_≡_, refl, sym, ap, _∙_}
 use mathlib.Core.Bool.{true, false, true≢false}
-use mathlib.Core.Logic.{_⊎_, inl, inr, ⊎-elim}
+use mathlib.Core.Logic.{⊎-elim, _⊎_, inl, inr}
 use mathlib.Core.Option.{none, some}
-use Prim.Native.Nat.{ℕ, _<_, _≤_}
+use Prim.Native.Nat.{ℕ, _≤_, _<_}
 use native.Mathlib.Omega.{arith}
 use lib.Dec.{ltb}
 use lib.ListN.{length}
 use borrow.Author.Tests.{eq-eqb, ltb-true, ltb-false}
 use Rattle.laws.specs.Tests.{firstOf}
-use Rattle.laws.proofs.Cases.{split, holds-fails}
+use Rattle.laws.proofs.Cases.{split, holds-fails, unheld-fails, and-left, and-right}
+use Rattle.model.specs.declared.Phase.the-variants.{Running}
 use Rattle.model.specs.declared.Mode.the-variants.{Suspended, Ready}
 use Rattle.model.specs.declared.State.{State}
 use Rattle.model.specs.declared.Event.{Event}
 use Rattle.model.specs.declared.Event.the-variants.{Wake, Suspend, Dispatch, Preempt, Elapse, Recharge, Lock, Unlock}
-use Rattle.model.specs.State.{places, serverAt, taskAt, resourceAt, here, waiting, awaited, owned, served, runningFor, executorOf}
+use Rattle.model.specs.State.{places, serverAt, taskAt, resourceAt, here, present, idle, recharging, suspended, waiting, awaited, owned, next, served, runningAt, runningFor, executorOf, executing}
 use Rattle.model.specs.Shape.{Shaped}
 use Rattle.model.specs.RuleH.{budgetAt, chosen, settled}
 use Rattle.model.specs.Events.{wokenServer, woken, restedServer, rested, slept, phased, elapsed, recharged, granted, freed, locked, unlocked, changed, acting}
 use Rattle.model.specs.Step.{tests, stateAfter}
+use Rattle.model.proofs.Sound.{Loose, sound-facts}
+use Rattle.model.proofs.Room.{executing-waits, executing-ended, unawaited, loose-queues}
 use Rattle.model.proofs.Chain.{here-below}
 use Rattle.model.proofs.Chosen.{chosen-best}
-use Rattle.model.proofs.Sound.{Loose, sound-facts}
 use Rattle.model.proofs.RuleH.{serving-below, settled-served, settled-for, settled-keeps, settled-hands, settled-chooses, settled-serves, settled-some}
 use Rattle.model.proofs.Grounds.{Grounds, grounds, unrefused-free}
+use Rattle.model.proofs.Variants.{running-is, suspended-is, ready-is}
 use Rattle.theory.specs.Demand2.{RuleH, RuleHAlways}
-use Rattle.theory.proofs.Frames.{heads-here, heads-kept, changed-shaped}
 use Rattle.theory.proofs.Alike.{alike-served}
 use Rattle.theory.proofs.Calm.{Calm, loose-calm}
-use Rattle.theory.proofs.Ready.{suspended-is, runs-ready}
+use Rattle.theory.proofs.Frames.{heads-here, heads-kept, changed-shaped}
 use Rattle.theory.proofs.Serving.{put-alike, stirred-alike, elapsed-alike}
 use Rattle.theory.proofs.Granting.{quiet-served}
 use Rattle.theory.proofs.Outcomes.{stepped-sound, goes-none}
+use Rattle.theory.proofs.Readings.{for-running, for-served, running-here}
+
+-- A task that executes: its server is Running and serves it, it waits for nobody, and it is ready
+module _ (st : State) (facts : Loose st) (t : ℕ) (runs : executing st t ≡ true) where
+  runs-here : here st t ≡ true
+  unfolding executing
+  runs-here = and-left (here st t) _ runs
+
+  pub runs-for : runningFor st t (executorOf st t) ≡ true
+  unfolding executing executorOf
+  runs-for = facts .executor t runs-here (and-right (here st t) _ runs)
+
+  pub runs-served : served st (executorOf st t) ≡ t
+  runs-served = for-served st t (executorOf st t) runs-for
+
+  pub runs-ended : places ≤ next st t
+  runs-ended = executing-ended st facts t runs
+
+  server-running : serverAt st (executorOf st t) .phase ≡ Running
+  unfolding runningAt
+  server-running = running-is _ (and-right (here st (executorOf st t)) _ (for-running st t (executorOf st t) runs-for))
+
+  awake : suspended (taskAt st t .mode) ≡ false
+  awake =
+      unheld-fails _
+      (λ s.
+      ⊎-elim
+      (λ r. true≢false (sym r ∙ ap recharging server-running))
+      (λ i. true≢false (sym (i .1 (ap (λ x. suspended (taskAt st x .mode)) runs-served ∙ s)) ∙ ap idle server-running))
+      (facts .idles (executorOf st t) (running-here st (executorOf st t) (for-running st t (executorOf st t) runs-for))))
+
+  unwaiting : waiting (taskAt st t .mode) ≡ false
+  unwaiting =
+      unheld-fails _
+      (λ w.
+      let r : ℕ = awaited (taskAt st t .mode) in
+      let p : present st r ≡ true = facts .wait t runs-here w in
+      split
+      (owned (resourceAt st r .owner))
+      (λ o. executing-waits st facts t runs r p o refl)
+      (λ n. unawaited st (loose-queues st facts) r p (facts .unqueued r p (λ o. true≢false (sym o ∙ n))) t runs-here refl))
+
+  pub runs-ready : taskAt st t .mode ≡ Ready
+  runs-ready = ready-is _ awake unwaiting
 
 module _ (st : State) (e : Event) (shaped : Shaped st) (facts : Loose st) (g : Grounds st e) (t : ℕ) (used : here st t ≡ true) where
   abbrev now : State
@@ -91,7 +139,7 @@ rule-h-always st e shaped s goes t used =
     let n : firstOf (tests st e) ≡ none = goes-none (firstOf (tests st e)) st e (rw (stepped-sound st e s) at goes) in
     rw (stepped-sound st e s, n) (rule-h st e shaped (sound-facts st .holds s .is-loose) (grounds st e (unrefused-free st e n)) t used)
 
--- nobody comes to wait, and nobody stops waiting
+-- Ends that stay: nobody comes to wait, and nobody stops waiting
 abbrev pub Quiet : State → Event → Type 0
 Quiet st (Wake t) = Unit {0}
 Quiet st (Suspend t) = Unit {0}
@@ -120,10 +168,9 @@ module _ (st : State) (shaped : Shaped st) (facts : Loose st) where
   served-changed (Recharge s) g q = alike-served (changed st (Recharge s)) st (put-alike st shaped c (s .0) _ (g .0))
   served-changed (Lock t r) g q =
       rw q
-      (quiet-served st shaped c (t .0) r (g .0) (g .1) (facts .unqueued r (g .1) (λ o. true≢false (sym o ∙ q))) _ _ refl refl refl
-      (record { many = refl; line = refl }))
+      (quiet-served st shaped c (t .0) r (g .0) (g .1) (facts .unqueued r (g .1) (λ o. true≢false (sym o ∙ q))) _ _ refl refl refl refl refl)
   served-changed (Unlock t r) g q =
-      rw (eq-eqb _ 0 q) (quiet-served st shaped c (t .0) r (g .0) (g .1) q _ _ refl refl refl (record { many = refl; line = refl }))
+      rw (eq-eqb _ 0 q) (quiet-served st shaped c (t .0) r (g .0) (g .1) q _ _ refl refl refl refl refl)
 
   -- the six events of tasks and servers, a grant and a release with nobody waiting leave every chain end
   pub served-kept : (e : Event) → Grounds st e → Quiet st e → (s : ℕ) → served (stateAfter st e) s ≡ served st s
