@@ -90,53 +90,6 @@ module _ (top : ℕ) where
       at-out m old v (suc j) (omega arith) ∙ sym (at-out n new v j z))) in
       omega (arith, whole, last, rest, ap bit (at-in m old v 0 (omega arith)), ap bit (at-out n new v top (omega arith)))
 
--- For item a and box b: how often it stands there, `old` and `new`, and where a points, `to`, when item i is put into box c, or taken out of it.
-module _ (a b i c to old new nowhere : ℕ) (agree : old ≡ bit (eqb to b)) (below : b < nowhere) where
-  not-there : bit (eqb nowhere b) ≡ 0
-  not-there = ap bit (ne-eqb nowhere b (λ e. omega arith))
-
-  put-agrees
-      : (a ≡ i → to ≡ nowhere) → (b ≡ c → new ≡ old + bit (eqb i a)) → ((b ≡ c → ⊥) → new ≡ old)
-      → new ≡ bit (eqb (if eqb a i then c else to) b)
-  put-agrees none put others =
-      split
-      (eqb a i)
-      (λ e.
-      let out : bit (eqb to b) ≡ 0 = rw (none (eqb-true a i e)) not-there in
-      rw e
-      (split
-      (eqb b c)
-      (λ f. omega (arith, put (eqb-true b c f), ap bit (eq-eqb i a (sym (eqb-true a i e))), ap bit (eq-eqb c b (sym (eqb-true b c f)))))
-      (λ n. omega (arith, others (eqb-false b c n), ap bit (ne-eqb c b (λ z. eqb-false b c n (sym z)))))))
-      (λ e.
-      rw e
-      (split
-      (eqb b c)
-      (λ f. omega (arith, put (eqb-true b c f), ap bit (ne-eqb i a (λ z. eqb-false a i e (sym z)))))
-      (λ n. others (eqb-false b c n) ∙ agree)))
-
-  taken-agrees
-      : (a ≡ i → to ≡ c) → (b ≡ c → old ≡ new + bit (eqb i a)) → ((b ≡ c → ⊥) → new ≡ old)
-      → new ≡ bit (eqb (if eqb a i then nowhere else to) b)
-  taken-agrees there taken others =
-      split
-      (eqb a i)
-      (λ e.
-      let at-c = there (eqb-true a i e) in
-      rw e
-      (split
-      (eqb b c)
-      (λ f.
-      omega
-      (arith, not-there, taken (eqb-true b c f), ap bit (eq-eqb i a (sym (eqb-true a i e))), ap bit (eq-eqb to b (at-c ∙ sym (eqb-true b c f)))))
-      (λ n. omega (arith, not-there, others (eqb-false b c n), ap bit (ne-eqb to b (λ z. eqb-false b c n (sym z ∙ at-c)))))))
-      (λ e.
-      rw e
-      (split
-      (eqb b c)
-      (λ f. omega (arith, taken (eqb-true b c f), ap bit (ne-eqb i a (λ z. eqb-false a i e (sym z)))))
-      (λ n. others (eqb-false b c n) ∙ agree)))
-
 -- items and boxes in use, each box's size and entries, whether an item points and to which box, and whether it may stand there
 pub record Standing
     (top : ℕ) (item box : ℕ → Bool) (size : ℕ → ℕ) (entry : ℕ → ℕ → ℕ) (points : ℕ → Bool) (to : ℕ → ℕ) (may : ℕ → ℕ → Bool) : Type 0 where
@@ -198,74 +151,92 @@ module _
         (short a k)
         (λ i l e. n (ap to (sym e) ∙ stands-points b i h l))
 
-    -- item i comes to point to `goal`, and only box c changes
-    module _
-        (points' : ℕ → Bool) (size' to' : ℕ → ℕ) (entry' : ℕ → ℕ → ℕ) (may' : ℕ → ℕ → Bool) (i c goal : ℕ)
-        (fills : Filled top item (size' c) (entry' c))
-        (others : (b : ℕ) → (b ≡ c → ⊥) → (size' b ≡ size b) × ((j : ℕ) → entry' b j ≡ entry b j))
-        (points-is : (a : ℕ) → (a ≡ i → ⊥) → points' a ≡ points a)
-        (to-is : (a : ℕ) → to' a ≡ (if eqb a i then goal else to a))
-        (may-is : (b a : ℕ) → may' b a ≡ may b a)
-      where
-        same-times : (b a : ℕ) → (b ≡ c → ⊥) → times top (size' b) (entry' b) a ≡ times top (size b) (entry b) a
-        same-times b a n = let o = others b n in rw (o .0) (count-ext (suc top) _ _ (λ j l. rw (o .1 j)))
-
-        moved-standing
-            : (points' i ≡ true → box goal ≡ true)
-            → (box goal ≡ true → may goal i ≡ true)
-            → ((b a : ℕ) → box b ≡ true → item a ≡ true → times top (size' b) (entry' b) a ≡ bit (eqb (if eqb a i then goal else to a) b))
-            → Standing top item box size' entry' points' to' may'
-        moved-standing at-goal allows agrees = record {
-          filled = λ b h.
-              split
-              (eqb b c)
-              (λ y. rw (eqb-true b c y) fills)
-              (λ n. let o = others b (eqb-false b c n) in rw (o .0) (old .filled b h .0, λ j k d. ap item (o .1 j) ∙ old .filled b h .1 j k d));
-          inside = λ a h p.
-              rw (to-is a)
-              (split
-              (eqb a i)
-              (λ y. rw y (at-goal (ap points' (sym (eqb-true a i y)) ∙ p)))
-              (λ n. rw n (old .inside a h (sym (points-is a (eqb-false a i n)) ∙ p))));
-          agree = λ b a h k. agrees b a h k ∙ ap (λ z. bit (eqb z b)) (sym (to-is a));
-          allowed = λ b a h k e.
-              may-is b a
-              ∙ split
-              (eqb a i)
-              (λ y. let z : goal ≡ b = rw y at (sym (to-is a) ∙ e) in rw (eqb-true a i y, ← z) (allows (rw z h)))
-              (λ n. old .allowed b a h k (rw n at (sym (to-is a) ∙ e)));
-        }
-
+    -- Item i comes to point to `goal`, and only box c changes: it gains `more` of each item and loses `less`.
     module _
         (points' : ℕ → Bool) (size' to' : ℕ → ℕ) (entry' : ℕ → ℕ → ℕ) (may' : ℕ → ℕ → Bool) (i c : ℕ)
-        (known : box c ≡ true)
         (fills : Filled top item (size' c) (entry' c))
         (others : (b : ℕ) → (b ≡ c → ⊥) → (size' b ≡ size b) × ((j : ℕ) → entry' b j ≡ entry b j))
         (points-is : (a : ℕ) → (a ≡ i → ⊥) → points' a ≡ points a)
         (may-is : (b a : ℕ) → may' b a ≡ may b a)
       where
+        module _
+            (goal : ℕ)
+            (more less : ℕ → ℕ)
+            (to-is : (a : ℕ) → to' a ≡ (if eqb a i then goal else to a))
+            (count : (a : ℕ) → times top (size' c) (entry' c) a + less a ≡ times top (size c) (entry c) a + more a)
+            (quiet : (a : ℕ) → (a ≡ i → ⊥) → (more a ≡ 0) × (less a ≡ 0))
+            (swap : bit (eqb (to i) c) + more i ≡ bit (eqb goal c) + less i)
+            (apart : (b : ℕ) → box b ≡ true → (b ≡ c → ⊥) → (to i ≡ b → ⊥) × (goal ≡ b → ⊥))
+          where
+            agrees : (b a : ℕ) → box b ≡ true → item a ≡ true → times top (size' b) (entry' b) a ≡ bit (eqb (if eqb a i then goal else to a) b)
+            agrees b a h k =
+                let was = old .agree b a h k in
+                split
+                (eqb b c)
+                (λ f.
+                let z = eqb-true b c f in
+                let d = count a in
+                let w : times top (size c) (entry c) a ≡ bit (eqb (to a) c) = rw z at was in
+                rw z
+                (split
+                (eqb a i)
+                (λ e. let q = eqb-true a i e in rw e (omega (arith, d, w, swap, ap more q, ap less q, ap (λ y. bit (eqb (to y) c)) q)))
+                (λ n. let q = quiet a (eqb-false a i n) in rw n (omega (arith, d, w, q .0, q .1)))))
+                (λ f.
+                let n = eqb-false b c f in
+                let o = others b n in
+                let same : times top (size' b) (entry' b) a ≡ times top (size b) (entry b) a = rw (o .0) (count-ext (suc top) _ _ (λ j l. rw (o .1 j))) in
+                same
+                ∙ was
+                ∙ split
+                (eqb a i)
+                (λ e. rw (e, eqb-true a i e, ne-eqb (to i) b (apart b h n .0), ne-eqb goal b (apart b h n .1)))
+                (λ e. rw e))
+
+            moved-standing : (points' i ≡ true → box goal ≡ true) → (box goal ≡ true → may goal i ≡ true) → Standing top item box size' entry' points' to' may'
+            moved-standing at-goal allows = record {
+              filled = λ b h.
+                  split
+                  (eqb b c)
+                  (λ y. rw (eqb-true b c y) fills)
+                  (λ n. let o = others b (eqb-false b c n) in rw (o .0) (old .filled b h .0, λ j k d. ap item (o .1 j) ∙ old .filled b h .1 j k d));
+              inside = λ a h p.
+                  rw (to-is a)
+                  (split
+                  (eqb a i)
+                  (λ y. rw y (at-goal (ap points' (sym (eqb-true a i y)) ∙ p)))
+                  (λ n. rw n (old .inside a h (sym (points-is a (eqb-false a i n)) ∙ p))));
+              agree = λ b a h k. agrees b a h k ∙ ap (λ z. bit (eqb z b)) (sym (to-is a));
+              allowed = λ b a h k e.
+                  may-is b a
+                  ∙ split
+                  (eqb a i)
+                  (λ y. let z : goal ≡ b = rw y at (sym (to-is a) ∙ e) in rw (eqb-true a i y, ← z) (allows (rw z h)))
+                  (λ n. old .allowed b a h k (rw n at (sym (to-is a) ∙ e)));
+            }
+
+        -- i, which points nowhere, is put into c
         pub put-standing
-            : ((a : ℕ) → to' a ≡ (if eqb a i then c else to a)) → to i ≡ suc top → may c i ≡ true
+            : box c ≡ true → ((a : ℕ) → to' a ≡ (if eqb a i then c else to a)) → to i ≡ suc top → may c i ≡ true
             → ((a : ℕ) → times top (size' c) (entry' c) a ≡ times top (size c) (entry c) a + bit (eqb i a))
             → Standing top item box size' entry' points' to' may'
-        put-standing to-is none ok count =
-            moved-standing points' size' to' entry' may' i c c fills others points-is to-is may-is (λ p. known) (λ h. ok)
-            (λ b a h k.
-            put-agrees a b i c (to a) _ _ (suc top) (old .agree b a h k) (below b h)
-            (λ e. ap to e ∙ none)
-            (λ e. rw e (count a))
-            (same-times points' size' to' entry' may' i c c fills others points-is to-is may-is b a))
+        put-standing known to-is none ok count =
+            moved-standing c (λ a. bit (eqb i a)) (λ a. 0) to-is
+            (λ a. omega (arith, count a))
+            (λ a n. (ap bit (ne-eqb i a (λ e. n (sym e))), refl))
+            (omega (arith, ap bit (eq-eqb i i refl), ap bit (eq-eqb c c refl), ap bit (ne-eqb (to i) c (λ e. omega (arith, below c known)))))
+            (λ b h n. (λ e. omega (arith, below b h), λ e. n (sym e)))
+            (λ p. known) (λ h. ok)
 
+        -- i is taken out of c
         pub taken-standing
-            : ((a : ℕ) → to' a ≡ (if eqb a i then suc top else to a)) → to i ≡ c → points' i ≡ false
+            : box c ≡ true → ((a : ℕ) → to' a ≡ (if eqb a i then suc top else to a)) → to i ≡ c → points' i ≡ false
             → ((a : ℕ) → times top (size c) (entry c) a ≡ times top (size' c) (entry' c) a + bit (eqb i a))
             → Standing top item box size' entry' points' to' may'
-        taken-standing to-is there off count =
-            moved-standing points' size' to' entry' may' i c (suc top) fills others points-is to-is may-is
-            (λ p. holds-fails p off)
-            (λ h. absurd (omega (arith, below (suc top) h)))
-            (λ b a h k.
-            taken-agrees a b i c (to a) _ _ (suc top) (old .agree b a h k) (below b h)
-            (λ e. ap to e ∙ there)
-            (λ e. rw e (count a))
-            (same-times points' size' to' entry' may' i c (suc top) fills others points-is to-is may-is b a))
+        taken-standing known to-is there off count =
+            moved-standing (suc top) (λ a. 0) (λ a. bit (eqb i a)) to-is
+            (λ a. omega (arith, count a))
+            (λ a n. (refl, ap bit (ne-eqb i a (λ e. n (sym e)))))
+            (omega (arith, ap bit (eq-eqb i i refl), ap bit (eq-eqb (to i) c there), ap bit (ne-eqb (suc top) c (λ e. omega (arith, below c known)))))
+            (λ b h n. (λ e. n (sym e ∙ there), λ e. omega (arith, below b h)))
+            (λ p. holds-fails p off) (λ h. absurd (omega (arith, below (suc top) h)))

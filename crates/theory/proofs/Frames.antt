@@ -1,6 +1,6 @@
 -- Frames: what an event can make of one server, of one task and of one resource, whatever the state. Each entry after the event's change stays as it
--- was or is one of a few rewritings of itself (`ServerAfter`, `TaskAfter`, `ResourceAfter`), and it is rewritten only where the event reaches it
--- (`ServerReached`, `TaskReached`, `ResourceReached`). What no rewriting touches no event touches: fields (`servers-left`, `tasks-left`), the counts
+-- was, or the event reaches it (`ServerReached`, `TaskReached`, `ResourceReached`) and it is one of a few rewritings of itself (`ServerMade`,
+-- `TaskMade`, `ResourceMade`): that is `server-after`, `task-after`, `resource-after`. What no rewriting touches no event touches: fields (`servers-left`, `tasks-left`), the counts
 -- (`heads-kept`), the arrays' sixteen places (`changed-shaped`). What no event reaches stays: entries past the counts (`past-kept`), and in
 -- Locality.antt the entries of other groups. Rule H writes one field of tasks (`settled-task`). Assumes nothing.
 use mathlib.Core.Path.{_≡_, refl, sym, ap, subst, _∙_}
@@ -129,31 +129,37 @@ ResourceReached (Lock t r) q = q ≡ r
 ResourceReached (Unlock t r) q = q ≡ r
 
 -- what it makes of them
-pub data ServerAfter (st : State) (e : Event) (i : ℕ) (x : Server) : Type 0 where
-  server-stays : x ≡ serverAt st i → ServerAfter st e i x
-  in-phase
-      : (p : Phase) → x ≡ withPhase p (serverAt st i) → (running p ≡ true → e ≡ Dispatch (record { 0 = i })) → ServerReached st e i → ServerAfter st e i x
-  refills : (p : Phase) → x ≡ refilled p (st .clock) (serverAt st i) → running p ≡ false → ServerReached st e i → ServerAfter st e i x
-  spends : (n : ℕ) → x ≡ spentServer st n i → e ≡ Elapse n → ServerReached st e i → ServerAfter st e i x
+pub data ServerMade (st : State) (e : Event) (i : ℕ) (x : Server) : Type 0 where
+  in-phase : (p : Phase) → x ≡ withPhase p (serverAt st i) → (running p ≡ true → e ≡ Dispatch (record { 0 = i })) → ServerMade st e i x
+  refills : (p : Phase) → x ≡ refilled p (st .clock) (serverAt st i) → running p ≡ false → ServerMade st e i x
+  spends : (n : ℕ) → x ≡ spentServer st n i → e ≡ Elapse n → ServerMade st e i x
 
-pub data TaskAfter (st : State) (e : Event) (i : ℕ) (x : Task) : Type 0 where
-  task-stays : x ≡ taskAt st i → TaskAfter st e i x
-  wakes-up : x ≡ withMode Ready (taskAt st i) → TaskReached st e i → TaskAfter st e i x
-  sleeps : x ≡ withMode Suspended (taskAt st i) → TaskReached st e i → TaskAfter st e i x
-  waits : (t : TaskNo) (r : ℕ) → x ≡ withMode (Waiting r) (taskAt st i) → e ≡ Lock t r → i ≡ t .0 → TaskReached st e i → TaskAfter st e i x
-  takes : (r : ℕ) → x ≡ pushed r (taskAt st i) → TaskReached st e i → TaskAfter st e i x
-  inherits : (r : ℕ) → x ≡ pushed r (withMode Ready (taskAt st i)) → TaskReached st e i → TaskAfter st e i x
-  gives : x ≡ popped (taskAt st i) → TaskReached st e i → TaskAfter st e i x
-  ticks : (n : ℕ) → x ≡ tickedTask st n i → e ≡ Elapse n → TaskReached st e i → TaskAfter st e i x
+pub data TaskMade (st : State) (e : Event) (i : ℕ) (x : Task) : Type 0 where
+  wakes-up : x ≡ withMode Ready (taskAt st i) → TaskMade st e i x
+  sleeps : x ≡ withMode Suspended (taskAt st i) → TaskMade st e i x
+  waits : (t : TaskNo) (r : ℕ) → x ≡ withMode (Waiting r) (taskAt st i) → e ≡ Lock t r → i ≡ t .0 → TaskMade st e i x
+  takes : (r : ℕ) → x ≡ pushed r (taskAt st i) → TaskMade st e i x
+  inherits : (r : ℕ) → x ≡ pushed r (withMode Ready (taskAt st i)) → TaskMade st e i x
+  gives : x ≡ popped (taskAt st i) → TaskMade st e i x
+  ticks : (n : ℕ) → x ≡ tickedTask st n i → e ≡ Elapse n → TaskMade st e i x
 
-pub data ResourceAfter (st : State) (e : Event) (q : ℕ) (x : Resource) : Type 0 where
-  resource-stays : x ≡ resourceAt st q → ResourceAfter st e q x
-  queued : (t : TaskNo) → x ≡ enqueued (t .0) (resourceAt st q) → e ≡ Lock t q → ResourceAfter st e q x
-  owned-by : (t : TaskNo) → x ≡ withOwner (By (record { 0 = t .0 })) (resourceAt st q) → e ≡ Lock t q → ResourceAfter st e q x
-  given-up : (t : TaskNo) → x ≡ withOwner Nobody (resourceAt st q) → e ≡ Unlock t q → ResourceAfter st e q x
+pub data ResourceMade (st : State) (e : Event) (q : ℕ) (x : Resource) : Type 0 where
+  queued : (t : TaskNo) → x ≡ enqueued (t .0) (resourceAt st q) → e ≡ Lock t q → ResourceMade st e q x
+  owned-by : (t : TaskNo) → x ≡ withOwner (By (record { 0 = t .0 })) (resourceAt st q) → e ≡ Lock t q → ResourceMade st e q x
+  given-up : (t : TaskNo) → x ≡ withOwner Nobody (resourceAt st q) → e ≡ Unlock t q → ResourceMade st e q x
   passed-on
       : (t : TaskNo) → x ≡ withOwner (By (record { 0 = firstWaiter (resourceAt st q) })) (dequeued (resourceAt st q))
-      → e ≡ Unlock t q → 0 < resourceAt st q .waiting → ResourceAfter st e q x
+      → e ≡ Unlock t q → 0 < resourceAt st q .waiting → ResourceMade st e q x
+
+-- an entry stays, or is reached and made so
+abbrev pub ServerAfter : State → Event → ℕ → Server → Type 0
+ServerAfter st e i x = (x ≡ serverAt st i) ⊎ (ServerReached st e i × ServerMade st e i x)
+
+abbrev pub TaskAfter : State → Event → ℕ → Task → Type 0
+TaskAfter st e i x = (x ≡ taskAt st i) ⊎ (TaskReached st e i × TaskMade st e i x)
+
+abbrev pub ResourceAfter : State → Event → ℕ → Resource → Type 0
+ResourceAfter st e q x = (x ≡ resourceAt st q) ⊎ (ResourceReached e q × ResourceMade st e q x)
 
 -- servers
 rests-serves : (u : State) (t i : ℕ) → rests u t i ≡ true → served u i ≡ t
@@ -188,17 +194,17 @@ module _ (st : State) where
       split
       (here st i)
       (λ h. subst (ServerAfter st e i) (sym (c ∙ if-yes _ _ _ h)) (new i h))
-      (λ n. server-stays (c ∙ if-no _ _ _ n)))
-      (λ c. server-stays c)
+      (λ n. inl (c ∙ if-no _ _ _ n)))
+      (λ c. inl c)
       (each-cases places (serverBy st f) (st .server) noServer i)
 
   put-after : (e : Event) (s : ℕ) (x : Server) → ServerAfter st e s x → (i : ℕ) → ServerAfter st e i (serverAt (withServer s x st) i)
-  put-after e s x new i = ⊎-elim (λ c. rw (c .1, c .0) new) (λ c. server-stays c) (store-cases (st .server) s x noServer i)
+  put-after e s x new i = ⊎-elim (λ c. rw (c .1, c .0) new) (λ c. inl c) (store-cases (st .server) s x noServer i)
 
   woken-after : (t : TaskNo) (s : ℕ) → here st s ≡ true → ServerAfter st (Wake t) s (wokenServer st (t .0) s)
   unfolding wokenServer
   woken-after t s h =
-      split (wakes st (t .0) s) (λ y. refills Active (rw y) refl (h, wakes-serves st (t .0) s y)) (λ n. server-stays (rw n))
+      split (wakes st (t .0) s) (λ y. inr ((h, wakes-serves st (t .0) s y), refills Active (rw y) refl)) (λ n. inl (rw n))
 
   rested-after : (t : TaskNo) (r i : ℕ) → owned (resourceAt st r .owner) ≡ true → ServerAfter st (Lock t r) i (serverAt (restedEnd (joined st (t .0) r) (t .0)) i)
   unfolding restedEnd joined here
@@ -208,35 +214,38 @@ module _ (st : State) where
       (λ y.
       rw y
       (⊎-elim
-      (λ c. server-stays c)
-      (λ c. in-phase Idle (c .0) (λ z. holds-fails z refl) (c .1, taken, c .2))
+      (λ c. inl c)
+      (λ c. inr ((c .1, taken, c .2), in-phase Idle (c .0) (λ z. holds-fails z refl)))
       (rest-cases (joined st (t .0) r) (served (joined st (t .0) r) (t .0)) i)))
-      (λ n. rw n (server-stays refl))
+      (λ n. rw n (inl refl))
 
   pub server-after : (e : Event) (i : ℕ) → ServerAfter st e i (serverAt (changed st e) i)
   unfolding woken slept phased elapsed recharged rechargedPhase locked unlocked granted freed passed
   server-after (Wake t) i = each-after (Wake t) (wokenServer st (t .0)) (woken-after t) i
   server-after (Suspend t) i =
-      ⊎-elim (λ c. server-stays c) (λ c. in-phase Idle (c .0) (λ z. holds-fails z refl) (c .1, c .2)) (rest-cases st (t .0) i)
-  server-after (Dispatch s) i = put-after (Dispatch s) (s .0) _ (in-phase Running refl (λ z. refl) refl) i
-  server-after (Preempt s) i = put-after (Preempt s) (s .0) _ (in-phase Active refl (λ z. holds-fails z refl) refl) i
-  server-after (Elapse n) i = each-after (Elapse n) (spentServer st n) (λ s h. spends n refl refl h) i
+      ⊎-elim (λ c. inl c) (λ c. inr ((c .1, c .2), in-phase Idle (c .0) (λ z. holds-fails z refl))) (rest-cases st (t .0) i)
+  server-after (Dispatch s) i = put-after (Dispatch s) (s .0) _ (inr (refl, in-phase Running refl (λ z. refl))) i
+  server-after (Preempt s) i = put-after (Preempt s) (s .0) _ (inr (refl, in-phase Active refl (λ z. holds-fails z refl))) i
+  server-after (Elapse n) i = each-after (Elapse n) (spentServer st n) (λ s h. inr (h, spends n refl refl)) i
   server-after (Recharge s) i =
       put-after (Recharge s) (s .0) _
-      (refills (rechargedPhase st (s .0)) refl (split (suspended (taskAt st (served st (s .0)) .mode)) (λ y. rw y) (λ n. rw n)) refl)
+      (inr (refl, refills (rechargedPhase st (s .0)) refl (split (suspended (taskAt st (served st (s .0)) .mode)) (λ y. rw y) (λ n. rw n))))
       i
   server-after (Lock t r) i =
-      split (owned (resourceAt st r .owner)) (λ y. rw y (rested-after t r i y)) (λ n. rw n (server-stays refl))
-  server-after (Unlock t r) i = split (eqb (resourceAt st r .waiting) 0) (λ y. rw y (server-stays refl)) (λ n. rw n (server-stays refl))
+      split
+      (owned (resourceAt st r .owner))
+      (λ y. subst (λ z. ServerAfter st (Lock t r) i (serverAt z i)) (sym (if-yes _ _ _ y)) (rested-after t r i y))
+      (λ n. inl (ap (λ z. serverAt z i) (if-no _ _ _ n)))
+  server-after (Unlock t r) i = split (eqb (resourceAt st r .waiting) 0) (λ y. rw y (inl refl)) (λ n. rw n (inl refl))
 
   -- tasks
   keep-after : (e : Event) (t : ℕ) (x : Task) → TaskAfter st e t x → (i : ℕ) → TaskAfter st e i (taskAt (withTask t x st) i)
-  keep-after e t x new i = ⊎-elim (λ c. rw (c .1, c .0) new) (λ c. task-stays c) (store-cases (st .task) t x noTask i)
+  keep-after e t x new i = ⊎-elim (λ c. rw (c .1, c .0) new) (λ c. inl c) (store-cases (st .task) t x noTask i)
 
   joined-after : (t : TaskNo) (r i : ℕ) → TaskAfter st (Lock t r) i (taskAt (restedEnd (joined st (t .0) r) (t .0)) i)
   unfolding restedEnd rested eachServer joined
   joined-after t r i =
-      let new = keep-after (Lock t r) (t .0) (withMode (Waiting r) (taskAt st (t .0))) (waits t r refl refl refl refl) i in
+      let new = keep-after (Lock t r) (t .0) (withMode (Waiting r) (taskAt st (t .0))) (inr (refl, waits t r refl refl refl)) i in
       split (suspended (taskAt (joined st (t .0) r) (served (joined st (t .0) r) (t .0)) .mode)) (λ y. rw y new) (λ n. rw n new)
 
   passed-after
@@ -245,65 +254,65 @@ module _ (st : State) where
   passed-after t r i some =
       let h : ℕ = firstWaiter (resourceAt st r) in
       ⊎-elim
-      (λ c. rw (c .1, c .0) (inherits r refl (inr (some, refl))))
-      (λ c. subst (TaskAfter st (Unlock t r) i) (sym c) (keep-after (Unlock t r) (t .0) (popped (taskAt st (t .0))) (gives refl (inl refl)) i))
+      (λ c. rw (c .1, c .0) (inr (inr (some, refl), inherits r refl)))
+      (λ c. subst (TaskAfter st (Unlock t r) i) (sym c) (keep-after (Unlock t r) (t .0) (popped (taskAt st (t .0))) (inr (inl refl, gives refl)) i))
       (store-cases (set (st .task) (t .0) (popped (taskAt st (t .0)))) h (pushed r (withMode Ready (taskAt st h))) noTask i)
 
   ticked-after : (n i : ℕ) → TaskAfter st (Elapse n) i (taskAt (elapsed st n) i)
   unfolding elapsed eachServer taskBy
   ticked-after n i =
       ⊎-elim
-      (λ c. split (here st i) (λ h. ticks n (c ∙ if-yes _ _ _ h) refl h) (λ m. task-stays (c ∙ if-no _ _ _ m)))
-      (λ c. task-stays c)
+      (λ c. split (here st i) (λ h. inr (h, ticks n (c ∙ if-yes _ _ _ h) refl)) (λ m. inl (c ∙ if-no _ _ _ m)))
+      (λ c. inl c)
       (each-cases places (taskBy st (tickedTask st n)) (st .task) noTask i)
 
   pub task-after : (e : Event) (i : ℕ) → TaskAfter st e i (taskAt (changed st e) i)
   unfolding woken slept rested eachServer phased recharged locked unlocked granted freed
-  task-after (Wake t) i = keep-after (Wake t) (t .0) _ (wakes-up refl refl) i
-  task-after (Suspend t) i = keep-after (Suspend t) (t .0) _ (sleeps refl refl) i
-  task-after (Dispatch s) i = task-stays refl
-  task-after (Preempt s) i = task-stays refl
+  task-after (Wake t) i = keep-after (Wake t) (t .0) _ (inr (refl, wakes-up refl)) i
+  task-after (Suspend t) i = keep-after (Suspend t) (t .0) _ (inr (refl, sleeps refl)) i
+  task-after (Dispatch s) i = inl refl
+  task-after (Preempt s) i = inl refl
   task-after (Elapse n) i = ticked-after n i
-  task-after (Recharge s) i = task-stays refl
+  task-after (Recharge s) i = inl refl
   task-after (Lock t r) i =
       split
       (owned (resourceAt st r .owner))
       (λ y. rw y (joined-after t r i))
-      (λ n. rw n (keep-after (Lock t r) (t .0) _ (takes r refl refl) i))
+      (λ n. rw n (keep-after (Lock t r) (t .0) _ (inr (refl, takes r refl)) i))
   task-after (Unlock t r) i =
       split
       (eqb (resourceAt st r .waiting) 0)
-      (λ y. rw y (keep-after (Unlock t r) (t .0) _ (gives refl (inl refl)) i))
+      (λ y. rw y (keep-after (Unlock t r) (t .0) _ (inr (inl refl, gives refl)) i))
       (λ n. rw n (passed-after t r i (omega (arith, eqb-false (resourceAt st r .waiting) 0 n))))
 
   -- resources
   own-after : (e : Event) (r : ℕ) (x : Resource) → ResourceAfter st e r x → (q : ℕ) → ResourceAfter st e q (getD (set (st .resource) r x) q noResource)
-  own-after e r x new q = ⊎-elim (λ c. rw (c .1, c .0) new) (λ c. resource-stays c) (store-cases (st .resource) r x noResource q)
+  own-after e r x new q = ⊎-elim (λ c. rw (c .1, c .0) new) (λ c. inl c) (store-cases (st .resource) r x noResource q)
 
   queued-after : (t : TaskNo) (r q : ℕ) → ResourceAfter st (Lock t r) q (resourceAt (restedEnd (joined st (t .0) r) (t .0)) q)
   unfolding restedEnd rested eachServer joined
   queued-after t r q =
-      let new = own-after (Lock t r) r (enqueued (t .0) (resourceAt st r)) (queued t refl refl) q in
+      let new = own-after (Lock t r) r (enqueued (t .0) (resourceAt st r)) (inr (refl, queued t refl refl)) q in
       split (suspended (taskAt (joined st (t .0) r) (served (joined st (t .0) r) (t .0)) .mode)) (λ y. rw y new) (λ n. rw n new)
 
   pub resource-after : (e : Event) (q : ℕ) → ResourceAfter st e q (resourceAt (changed st e) q)
   unfolding woken slept rested eachServer phased elapsed recharged locked unlocked granted freed passed
-  resource-after (Wake t) q = resource-stays refl
-  resource-after (Suspend t) q = resource-stays refl
-  resource-after (Dispatch s) q = resource-stays refl
-  resource-after (Preempt s) q = resource-stays refl
-  resource-after (Elapse n) q = resource-stays refl
-  resource-after (Recharge s) q = resource-stays refl
+  resource-after (Wake t) q = inl refl
+  resource-after (Suspend t) q = inl refl
+  resource-after (Dispatch s) q = inl refl
+  resource-after (Preempt s) q = inl refl
+  resource-after (Elapse n) q = inl refl
+  resource-after (Recharge s) q = inl refl
   resource-after (Lock t r) q =
       split
       (owned (resourceAt st r .owner))
       (λ y. rw y (queued-after t r q))
-      (λ n. rw n (own-after (Lock t r) r _ (owned-by t refl refl) q))
+      (λ n. rw n (own-after (Lock t r) r _ (inr (refl, owned-by t refl refl)) q))
   resource-after (Unlock t r) q =
       split
       (eqb (resourceAt st r .waiting) 0)
-      (λ y. rw y (own-after (Unlock t r) r _ (given-up t refl refl) q))
-      (λ n. rw n (own-after (Unlock t r) r _ (passed-on t refl refl (omega (arith, eqb-false (resourceAt st r .waiting) 0 n))) q))
+      (λ y. rw y (own-after (Unlock t r) r _ (inr (refl, given-up t refl refl)) q))
+      (λ n. rw n (own-after (Unlock t r) r _ (inr (refl, passed-on t refl refl (omega (arith, eqb-false (resourceAt st r .waiting) 0 n)))) q))
 
 -- what no rewriting touches: a field of servers that sees neither phase nor budget and deadline,
 module _
@@ -316,15 +325,14 @@ module _
     (spent : (n s : ℕ) → e ≡ Elapse n → f (spentServer st n s) ≡ f (serverAt st s))
     (i : ℕ)
   where
-    server-left : (x : Server) → ServerAfter st e i x → f x ≡ f (serverAt st i)
-    server-left x (server-stays q) = ap f q
-    server-left x (in-phase p q d k) = ap f q ∙ phase p (serverAt st i)
-    server-left x (refills p q n k) = ap f q ∙ refill p (st .clock) (serverAt st i)
-    server-left x (spends n q d k) = ap f q ∙ spent n i d
+    server-left : {x : Server} → ServerMade st e i x → f x ≡ f (serverAt st i)
+    server-left (in-phase p q d) = ap f q ∙ phase p (serverAt st i)
+    server-left (refills p q n) = ap f q ∙ refill p (st .clock) (serverAt st i)
+    server-left (spends n q d) = ap f q ∙ spent n i d
 
     pub servers-left : f (serverAt (stateAfter st e) i) ≡ f (serverAt st i)
     unfolding stateAfter settled
-    servers-left = server-left _ (server-after st e i)
+    servers-left = ⊎-elim (ap f) (λ k. server-left (k .1)) (server-after st e i)
 
 -- a field of tasks that sees neither mode nor stack (nor where it executes),
 module _
@@ -335,18 +343,17 @@ module _
     (pop : (k : Task) → f (popped k) ≡ f k)
   where
     module _ (st : State) (e : Event) (ticked : (n t : ℕ) → e ≡ Elapse n → f (tickedTask st n t) ≡ f (taskAt st t)) (i : ℕ) where
-      task-left : (x : Task) → TaskAfter st e i x → f x ≡ f (taskAt st i)
-      task-left x (task-stays q) = ap f q
-      task-left x (wakes-up q k) = ap f q ∙ mode Ready (taskAt st i)
-      task-left x (sleeps q k) = ap f q ∙ mode Suspended (taskAt st i)
-      task-left x (waits t r q d g k) = ap f q ∙ mode (Waiting r) (taskAt st i)
-      task-left x (takes r q k) = ap f q ∙ push r (taskAt st i)
-      task-left x (inherits r q k) = ap f q ∙ push r (withMode Ready (taskAt st i)) ∙ mode Ready (taskAt st i)
-      task-left x (gives q k) = ap f q ∙ pop (taskAt st i)
-      task-left x (ticks n q d k) = ap f q ∙ ticked n i d
+      task-left : {x : Task} → TaskMade st e i x → f x ≡ f (taskAt st i)
+      task-left (wakes-up q) = ap f q ∙ mode Ready (taskAt st i)
+      task-left (sleeps q) = ap f q ∙ mode Suspended (taskAt st i)
+      task-left (waits t r q d g) = ap f q ∙ mode (Waiting r) (taskAt st i)
+      task-left (takes r q) = ap f q ∙ push r (taskAt st i)
+      task-left (inherits r q) = ap f q ∙ push r (withMode Ready (taskAt st i)) ∙ mode Ready (taskAt st i)
+      task-left (gives q) = ap f q ∙ pop (taskAt st i)
+      task-left (ticks n q d) = ap f q ∙ ticked n i d
 
       pub tasks-changed : f (taskAt (changed st e) i) ≡ f (taskAt st i)
-      tasks-changed = task-left _ (task-after st e i)
+      tasks-changed = ⊎-elim (ap f) (λ k. task-left (k .1)) (task-after st e i)
 
     pub tasks-left
         : ((x : Runs) (k : Task) → f (withRuns x k) ≡ f k) → (st : State) (e : Event)
@@ -360,12 +367,11 @@ unfolding tickedTask
 declared-kept st e t = tasks-left (λ k. k .declared) (λ m k. refl) (λ r k. refl) (λ k. refl) (λ x k. refl) st e (λ n i d. refl) t
 
 -- and the length of every array
-queue-long : (st : State) (e : Event) (q : ℕ) (x : Resource) → ResourceAfter st e q x → length (x .queue) ≡ length (resourceAt st q .queue)
-queue-long st e q x (resource-stays d) = ap (λ z. length (z .queue)) d
-queue-long st e q x (queued t d g) = ap (λ z. length (z .queue)) d ∙ length-set (resourceAt st q .queue) _ _
-queue-long st e q x (owned-by t d g) = ap (λ z. length (z .queue)) d
-queue-long st e q x (given-up t d g) = ap (λ z. length (z .queue)) d
-queue-long st e q x (passed-on t d g some) = ap (λ z. length (z .queue)) d ∙ dequeued-long (resourceAt st q)
+queue-long : (st : State) (e : Event) (q : ℕ) {x : Resource} → ResourceMade st e q x → length (x .queue) ≡ length (resourceAt st q .queue)
+queue-long st e q (queued t d g) = ap (λ z. length (z .queue)) d ∙ length-set (resourceAt st q .queue) _ _
+queue-long st e q (owned-by t d g) = ap (λ z. length (z .queue)) d
+queue-long st e q (given-up t d g) = ap (λ z. length (z .queue)) d
+queue-long st e q (passed-on t d g some) = ap (λ z. length (z .queue)) d ∙ dequeued-long (resourceAt st q)
 
 abbrev Long : State → State → Type 0
 Long a b = (length (a .server) ≡ length (b .server)) × (length (a .task) ≡ length (b .task)) × (length (a .resource) ≡ length (b .resource))
@@ -405,7 +411,7 @@ changed-shaped st s e = record {
   stacks = λ t l.
       tasks-changed (λ k. length (k .held)) (λ m k. refl) (λ r k. length-set (k .held) _ _) (λ k. length-set (k .held) _ _) st e (λ n i d. refl) t
       ∙ s .stacks t l;
-  queues = λ q l. queue-long st e q _ (resource-after st e q) ∙ s .queues q l;
+  queues = λ q l. ⊎-elim (ap (λ z. length (z .queue))) (λ k. queue-long st e q (k .1)) (resource-after st e q) ∙ s .queues q l;
 }
 
 pub settled-shaped : (old st : State) (acting : ℕ) → Shaped st → Shaped (settled old acting st)
@@ -418,41 +424,7 @@ settled-shaped old st acting s = record {
   queues = s .queues;
 }
 
--- what is not reached stays
-module _ (st : State) (e : Event) (i : ℕ) where
-  server-reached : {x : Server} → ServerAfter st e i x → (x ≡ serverAt st i) ⊎ ServerReached st e i
-  server-reached (server-stays q) = inl q
-  server-reached (in-phase p q d k) = inr k
-  server-reached (refills p q n k) = inr k
-  server-reached (spends n q d k) = inr k
-
-  pub server-or-reached : (serverAt (changed st e) i ≡ serverAt st i) ⊎ ServerReached st e i
-  server-or-reached = server-reached (server-after st e i)
-
-  task-reached : {x : Task} → TaskAfter st e i x → (x ≡ taskAt st i) ⊎ TaskReached st e i
-  task-reached (task-stays q) = inl q
-  task-reached (wakes-up q k) = inr k
-  task-reached (sleeps q k) = inr k
-  task-reached (waits t r q d g k) = inr k
-  task-reached (takes r q k) = inr k
-  task-reached (inherits r q k) = inr k
-  task-reached (gives q k) = inr k
-  task-reached (ticks n q d k) = inr k
-
-  pub task-or-reached : (taskAt (changed st e) i ≡ taskAt st i) ⊎ TaskReached st e i
-  task-or-reached = task-reached (task-after st e i)
-
-  resource-reached : {x : Resource} → ResourceAfter st e i x → (x ≡ resourceAt st i) ⊎ ResourceReached e i
-  resource-reached (resource-stays q) = inl q
-  resource-reached (queued t q d) = inr (subst (λ z. ResourceReached z i) (sym d) refl)
-  resource-reached (owned-by t q d) = inr (subst (λ z. ResourceReached z i) (sym d) refl)
-  resource-reached (given-up t q d) = inr (subst (λ z. ResourceReached z i) (sym d) refl)
-  resource-reached (passed-on t q d some) = inr (subst (λ z. ResourceReached z i) (sym d) refl)
-
-  pub resource-or-reached : (resourceAt (changed st e) i ≡ resourceAt st i) ⊎ ResourceReached e i
-  resource-or-reached = resource-reached (resource-after st e i)
-
--- and what an accepted event reaches is in use
+-- what an accepted event reaches is in use
 module _ (st : State) where
   pub server-here : (e : Event) (i : ℕ) → Grounds st e → ServerReached st e i → here st i ≡ true
   server-here (Wake t) i g k = k .0

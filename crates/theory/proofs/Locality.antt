@@ -8,11 +8,10 @@ use mathlib.Core.Bool.{true, false, _&&_, _||_, true≢false}
 use mathlib.Core.List.{List}
 use mathlib.Core.Logic.{inr, ⊎-elim}
 use Prim.Native.Nat.{ℕ, _+_, _<_}
-use native.Mathlib.Omega.{arith}
 use lib.Dec.{ltb, eqb}
-use borrow.Author.Tests.{eqb-true, eqb-false, ltb-true, lt-ltb}
+use borrow.Author.Tests.{eqb-true, ltb-true, lt-ltb}
 use Rattle.laws.specs.Loops.{setTo}
-use Rattle.laws.proofs.Cases.{split, holds-fails, unheld-fails, and-left, and-right}
+use Rattle.laws.proofs.Cases.{split, holds-fails, unheld-fails}
 use Rattle.laws.proofs.Set.{set-kept}
 use Rattle.laws.proofs.SameAt.{SameAt, store-both, stored-both, each-both}
 use Rattle.reordering.specs.Order.{Kind, time, group, sees}
@@ -29,7 +28,7 @@ use Rattle.model.specs.declared.Resource.{Resource}
 use Rattle.model.specs.declared.State.{State}
 use Rattle.model.specs.declared.Event.{Event}
 use Rattle.model.specs.declared.Event.the-variants.{Wake, Suspend, Dispatch, Preempt, Elapse, Recharge, Lock, Unlock}
-use Rattle.model.specs.State.{places, noServer, noTask, noResource, serverAt, taskAt, resourceAt, here, present, idle, active, running, suspended, awaited, owned, ownerNo, placed, placeNo, served, runningAt, runningFor, executorOf}
+use Rattle.model.specs.State.{places, noServer, noTask, noResource, serverAt, taskAt, resourceAt, here, present, idle, active, running, suspended, awaited, owned, ownerNo, placed, placeNo, served, runningFor, executorOf}
 use Rattle.model.specs.RuleH.{chosen, executorBy, runsIn, settledTask, settled}
 use Rattle.model.specs.Events.{withPhase, refilled, withMode, serverBy, eachServer, wakes, wokenServer, woken, rests, restedServer, rested, slept, phased, ownTicks, lentTicks, spinTicks, runsOut, spentServer, tickedTask, taskBy, elapsed, rechargedPhase, recharged, pushed, popped, withOwner, enqueued, dequeued, firstWaiter, granted, joined, restedEnd, locked, freed, passed, unlocked, changed, acting}
 use Rattle.model.specs.Step.{stateAfter}
@@ -38,7 +37,7 @@ use Rattle.model.proofs.Grounds.{Grounds}
 use Rattle.model.proofs.Room.{first-here, first-waits}
 use Rattle.model.proofs.RuleH.{serving-below}
 use Rattle.model.proofs.Sound.{Loose}
-use Rattle.theory.proofs.Frames.{heads-here, heads-present, heads-kept, clock-kept, changed-shaped, ServerReached, TaskReached, ResourceReached, TaskAfter, task-stays, wakes-up, sleeps, waits, takes, inherits, gives, ticks, task-after, ResourceAfter, resource-stays, queued, owned-by, given-up, passed-on, resource-after, server-or-reached, task-or-reached, resource-or-reached}
+use Rattle.theory.proofs.Frames.{heads-here, heads-present, heads-kept, clock-kept, changed-shaped, ServerReached, TaskReached, ResourceReached, TaskMade, wakes-up, sleeps, waits, takes, inherits, gives, ticks, ResourceMade, queued, owned-by, given-up, passed-on, server-after, task-after, resource-after}
 use Rattle.theory.proofs.Readings.{for-running, for-served, running-here}
 use Rattle.theory.proofs.Agreement.{Labels, Agree, Homed, Good, good-home, good-self, here-same, running-same, executing-same, executes-same, executor-of-same, served-same, served-home, served-in, serves-same, for-same, chosen-same}
 
@@ -77,24 +76,22 @@ module _ (l : Labels) (st : State) (good : Good l st) where
 
   module _ (e : Event) (g : Grounds st e) where
     -- the change keeps waiters and owners at home
-    task-home : (i : ℕ) (x : Task) → TaskAfter st e i x → here st i ≡ true → present st (awaited (x .mode)) ≡ true → l .of-resource (awaited (x .mode)) ≡ l .of-task i
+    task-home : (i : ℕ) {x : Task} → TaskMade st e i x → here st i ≡ true → present st (awaited (x .mode)) ≡ true → l .of-resource (awaited (x .mode)) ≡ l .of-task i
     unfolding present tickedTask
-    task-home i x (task-stays q) h = rw q (home .waits i h)
-    task-home i x (wakes-up q k) h = rw q (λ p. absurd (true≢false (sym p)))
-    task-home i x (sleeps q k) h = rw q (λ p. absurd (true≢false (sym p)))
-    task-home i x (waits t r q d m k) h = rw q (λ p. lock-label t r (subst (Grounds st) d g) ∙ ap (l .of-task) (sym m))
-    task-home i x (takes r q k) h = rw q (home .waits i h)
-    task-home i x (inherits r q k) h = rw q (λ p. absurd (true≢false (sym p)))
-    task-home i x (gives q k) h = rw q (home .waits i h)
-    task-home i x (ticks n q d k) h = rw q (home .waits i h)
+    task-home i (wakes-up q) h = rw q (λ p. absurd (true≢false (sym p)))
+    task-home i (sleeps q) h = rw q (λ p. absurd (true≢false (sym p)))
+    task-home i (waits t r q d m) h = rw q (λ p. lock-label t r (subst (Grounds st) d g) ∙ ap (l .of-task) (sym m))
+    task-home i (takes r q) h = rw q (home .waits i h)
+    task-home i (inherits r q) h = rw q (λ p. absurd (true≢false (sym p)))
+    task-home i (gives q) h = rw q (home .waits i h)
+    task-home i (ticks n q d) h = rw q (home .waits i h)
 
-    resource-home : (r : ℕ) (x : Resource) → ResourceAfter st e r x → present st r ≡ true → here st (ownerNo (x .owner)) ≡ true → l .of-resource r ≡ l .of-task (ownerNo (x .owner))
+    resource-home : (r : ℕ) {x : Resource} → ResourceMade st e r x → present st r ≡ true → here st (ownerNo (x .owner)) ≡ true → l .of-resource r ≡ l .of-task (ownerNo (x .owner))
     unfolding here
-    resource-home r x (resource-stays q) p = rw q (home .owns r p)
-    resource-home r x (queued t q d) p = rw q (home .owns r p)
-    resource-home r x (owned-by t q d) p = rw q (λ h. lock-label t r (subst (Grounds st) d g))
-    resource-home r x (given-up t q d) p = rw q (λ h. absurd (true≢false (sym h)))
-    resource-home r x (passed-on t q d some) p = rw q (λ h. heir-label r p some)
+    resource-home r (queued t q d) p = rw q (home .owns r p)
+    resource-home r (owned-by t q d) p = rw q (λ h. lock-label t r (subst (Grounds st) d g))
+    resource-home r (given-up t q d) p = rw q (λ h. absurd (true≢false (sym h)))
+    resource-home r (passed-on t q d some) p = rw q (λ h. heir-label r p some)
 
     pub changed-home : Homed l (changed st e)
     changed-home =
@@ -102,8 +99,12 @@ module _ (l : Labels) (st : State) (good : Good l st) where
         let hs = heads-here (changed st e) st (counts .1) (counts .2) in
         let ps = heads-present (changed st e) st (counts .1) (counts .2) in
         record {
-          waits = λ t h p. task-home t _ (task-after st e t) (sym (hs t) ∙ h) (sym (ps _) ∙ p);
-          owns = λ r p h. resource-home r _ (resource-after st e r) (sym (ps r) ∙ p) (sym (hs _) ∙ h);
+          waits = λ t h p.
+              let k = sym (hs t) ∙ h in
+              ⊎-elim (λ q. rw q (λ x. home .waits t k x)) (λ m. task-home t (m .1) k) (task-after st e t) (sym (ps _) ∙ p);
+          owns = λ r p h.
+              let k = sym (ps r) ∙ p in
+              ⊎-elim (λ q. rw q (λ x. home .owns r k x)) (λ m. resource-home r (m .1) k) (resource-after st e r) (sym (hs _) ∙ h);
         }
 
   -- servers at rest are no waiters and own nothing
@@ -169,17 +170,17 @@ module _ (l : Labels) (st : State) (good : Good l st) where
           server-same = record {
             left-long = good .shaped .servers;
             right-long = now .servers;
-            entry = λ i m. ⊎-elim sym (λ q. absurd (n (sym (server-label e c k i q) ∙ m))) (server-or-reached st e i);
+            entry = λ i m. ⊎-elim sym (λ q. absurd (n (sym (server-label e c k i (q .0)) ∙ m))) (server-after st e i);
           };
           task-same = record {
             left-long = good .shaped .tasks;
             right-long = now .tasks;
-            entry = λ i m. ⊎-elim sym (λ q. absurd (n (sym (task-label e c k i q) ∙ m))) (task-or-reached st e i);
+            entry = λ i m. ⊎-elim sym (λ q. absurd (n (sym (task-label e c k i (q .0)) ∙ m))) (task-after st e i);
           };
           resource-same = record {
             left-long = good .shaped .resources;
             right-long = now .resources;
-            entry = λ i m. ⊎-elim sym (λ q. absurd (n (sym (resource-label e c k i q) ∙ m))) (resource-or-reached st e i);
+            entry = λ i m. ⊎-elim sym (λ q. absurd (n (sym (resource-label e c k i (q .0)) ∙ m))) (resource-after st e i);
           };
         }
 

@@ -23,7 +23,7 @@ use Rattle.model.specs.Step.{tests, answered, stateAfter, outcome, attempted, s
 use Rattle.model.proofs.Grounds.{Grounds, grounds, unrefused-free}
 use Rattle.model.proofs.Sound.{Loose, sound-facts}
 use Rattle.theory.specs.Runs.{refusedBy, refused}
-use Rattle.theory.proofs.Frames.{heads-here, heads-kept, server-or-reached, task-or-reached, resource-or-reached, server-here, task-here, resource-here}
+use Rattle.theory.proofs.Frames.{heads-here, heads-kept, server-after, task-after, resource-after, server-here, task-here, resource-here}
 
 -- a step on a sound state attempts the event,
 pub stepped-sound : (st : State) (e : Event) → sound st ≡ true → stepped st e ≡ outcome (firstOf (tests st e)) st e
@@ -101,11 +101,11 @@ module _ (st : State) (i : ℕ) where
   after-past facts e g =
       let counts = heads-kept st e in (
         λ p. (
-          ⊎-elim (λ q. q) (λ k. holds-fails (server-here st e i g k) p) (server-or-reached st e i),
+          ⊎-elim (λ q. q) (λ k. holds-fails (server-here st e i g (k .0)) p) (server-after st e i),
           settled-past st (changed st e) (acting st e) (heads-here (changed st e) st (counts .1) (counts .2) i ∙ p)
-              ∙ ⊎-elim (λ q. q) (λ k. holds-fails (task-here st facts e i g k) p) (task-or-reached st e i),
+              ∙ ⊎-elim (λ q. q) (λ k. holds-fails (task-here st facts e i g (k .0)) p) (task-after st e i),
         ),
-        λ p. ⊎-elim (λ q. q) (λ k. holds-fails (resource-here st e i g k) p) (resource-or-reached st e i),
+        λ p. ⊎-elim (λ q. q) (λ k. holds-fails (resource-here st e i g (k .0)) p) (resource-after st e i),
       )
 
   pub past-kept : (e : Event) → Stays (stepped st e .state)

@@ -29,7 +29,7 @@ use Rattle.model.proofs.Sound.{Seated}
 use Rattle.model.proofs.RuleH.{settled-running}
 use Rattle.model.proofs.Grounds.{Grounds}
 use Rattle.theory.specs.Demand2.{DispatchOnly}
-use Rattle.theory.proofs.Frames.{heads-here, heads-kept, ServerAfter, server-stays, in-phase, refills, spends, server-after}
+use Rattle.theory.proofs.Frames.{heads-here, heads-kept, ServerMade, in-phase, refills, spends, server-after}
 use Rattle.theory.proofs.Outcomes.{stepped-has}
 
 still-running : (b : Bool) (p q : Phase) → running p ≡ false → running (if b then p else q) ≡ true → running q ≡ true
@@ -37,12 +37,11 @@ still-running true p q n h = holds-fails h n
 still-running false p q n h = h
 
 module _ (st : State) (e : Event) where
-  ran : (s : ℕ) (x : Server) → ServerAfter st e s x → running (x .phase) ≡ true → (running (serverAt st s .phase) ≡ true) ⊎ (e ≡ Dispatch (record { 0 = s }))
+  ran : (s : ℕ) {x : Server} → ServerMade st e s x → running (x .phase) ≡ true → (running (serverAt st s .phase) ≡ true) ⊎ (e ≡ Dispatch (record { 0 = s }))
   unfolding spentServer
-  ran s x (server-stays q) h = inl (ap (λ z. running (z .phase)) (sym q) ∙ h)
-  ran s x (in-phase p q d k) h = inr (d (ap (λ z. running (z .phase)) (sym q) ∙ h))
-  ran s x (refills p q n k) h = holds-fails (ap (λ z. running (z .phase)) (sym q) ∙ h) n
-  ran s x (spends n q d k) h =
+  ran s (in-phase p q d) h = inr (d (ap (λ z. running (z .phase)) (sym q) ∙ h))
+  ran s (refills p q n) h = holds-fails (ap (λ z. running (z .phase)) (sym q) ∙ h) n
+  ran s (spends n q d) h =
       inl (still-running (runsOut st n s) Recharging (serverAt st s .phase) refl (ap (λ z. running (z .phase)) (sym q) ∙ h))
 
   ran-by : (s : ℕ) → runningAt (changed st e) s ≡ true → (runningAt st s ≡ true) ⊎ (e ≡ Dispatch (record { 0 = s }))
@@ -50,7 +49,11 @@ module _ (st : State) (e : Event) where
   ran-by s h =
       let counts = heads-kept st e in
       let used = sym (heads-here (changed st e) st (counts .1) (counts .2) s) ∙ and-left (here (changed st e) s) _ h in
-      ⊎-elim (λ r. inl (and-both (here st s) _ used r)) (λ q. inr q) (ran s _ (server-after st e s) (and-right (here (changed st e) s) _ h))
+      let now = and-right (here (changed st e) s) _ h in
+      ⊎-elim
+      (λ q. inl (and-both (here st s) _ used (ap (λ z. running (z .phase)) (sym q) ∙ now)))
+      (λ k. ⊎-elim (λ r. inl (and-both (here st s) _ used r)) (λ q. inr q) (ran s (k .1) now))
+      (server-after st e s)
 
 pub dispatch-only : DispatchOnly
 unfolding stateAfter

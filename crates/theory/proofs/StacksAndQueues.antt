@@ -120,12 +120,12 @@ module _ (st : State) (shaped : Shaped st) (t r : ℕ) (used : here st t ≡ tru
         put-standing l (here-below st)
         (λ q. owned (resourceAt (touched st t r new by) q .owner)) (λ y. taskAt (touched st t r new by) y .depth)
         (λ q. ownerNo (resourceAt (touched st t r new by) q .owner)) (λ y. heldIn (taskAt (touched st t r new by) y)) (declares (touched st t r new by))
-        r t used
+        r t
         (rw (task-self new by) (push-filled k long r room (present st) (l .filled t used) known))
         (λ y n. (ap (λ z. z .depth) (task-other new by y n), λ j. ap (λ z. heldIn z j) (task-other new by y n)))
         (λ q n. ap (λ z. owned (z .owner)) (resource-other new by q n))
         (touched-declares new by refl)
-        (touched-reads new by (λ z. ownerNo (z .owner)))
+        used (touched-reads new by (λ z. ownerNo (z .owner)))
         (unowned-no (x .owner) free) may
         (λ q. rw (task-self new by) (push-holds k long r room q))
 
@@ -139,12 +139,12 @@ module _ (st : State) (shaped : Shaped st) (t r : ℕ) (used : here st t ≡ tru
         taken-standing l (here-below st)
         (λ q. owned (resourceAt (touched st t r new by) q .owner)) (λ y. taskAt (touched st t r new by) y .depth)
         (λ q. ownerNo (resourceAt (touched st t r new by) q .owner)) (λ y. heldIn (taskAt (touched st t r new by) y)) (declares (touched st t r new by))
-        r t used
+        r t
         (rw (task-self new by) (pop-filled k some fits (present st) (l .filled t used)))
         (λ y n. (ap (λ z. z .depth) (task-other new by y n), λ j. ap (λ z. heldIn z j) (task-other new by y n)))
         (λ q n. ap (λ z. owned (z .owner)) (resource-other new by q n))
         (touched-declares new by refl)
-        (touched-reads new by (λ z. ownerNo (z .owner)))
+        used (touched-reads new by (λ z. ownerNo (z .owner)))
         owns (ap (λ z. owned (z .owner)) (resource-self new by))
         (λ q. rw (task-self new by) (pop-holds k some fits q ∙ ap (λ z. holds new q + bit (eqb z q)) top))
 
@@ -160,12 +160,12 @@ module _ (st : State) (shaped : Shaped st) (t r : ℕ) (used : here st t ≡ tru
         put-standing l (present-below st)
         (λ y. waiting (taskAt (touched st t r new by) y .mode)) (λ q. resourceAt (touched st t r new by) q .waiting)
         (λ y. awaited (taskAt (touched st t r new by) y .mode)) (λ q. queuedIn (resourceAt (touched st t r new by) q)) (λ q y. declares (touched st t r new by) y q)
-        t r known
+        t r
         (rw (resource-self new by) (enter-filled x wide t room (here st) (l .filled r known) used))
         (λ q n. (ap (λ z. z .waiting) (resource-other new by q n), λ j. ap (λ z. queuedIn z j) (resource-other new by q n)))
         (λ y n. ap (λ z. waiting (z .mode)) (task-other new by y n))
         (λ q y. touched-declares new by refl y q)
-        (touched-shows new by (λ z. awaited (z .mode)))
+        known (touched-shows new by (λ z. awaited (z .mode)))
         calm may
         (λ y. rw (resource-self new by) (enter-lines x wide t room y))
 
@@ -181,11 +181,11 @@ module _ (st : State) (shaped : Shaped st) (t r : ℕ) (used : here st t ≡ tru
         taken-standing l (present-below st)
         (λ y. waiting (taskAt (touched st t r new by) y .mode)) (λ q. resourceAt (touched st t r new by) q .waiting)
         (λ y. awaited (taskAt (touched st t r new by) y .mode)) (λ q. queuedIn (resourceAt (touched st t r new by) q)) (λ q y. declares (touched st t r new by) y q)
-        t r known
+        t r
         (rw (resource-self new by) (leave-filled x wide some fits (here st) (l .filled r known)))
         (λ q n. (ap (λ z. z .waiting) (resource-other new by q n), λ j. ap (λ z. queuedIn z j) (resource-other new by q n)))
         (λ y n. ap (λ z. waiting (z .mode)) (task-other new by y n))
         (λ q y. touched-declares new by refl y q)
-        (touched-shows new by (λ z. awaited (z .mode)))
+        known (touched-shows new by (λ z. awaited (z .mode)))
         waits (ap (λ z. waiting (z .mode)) (task-self new by))
         (λ y. rw (resource-self new by) (leave-lines x wide some fits y ∙ ap (λ z. lines by y + bit (eqb z y)) first))
