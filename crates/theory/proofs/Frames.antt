@@ -64,21 +64,43 @@ settled-field f = settled-task (λ k l. f k ≡ f l) (λ k. refl)
 abbrev pub Heads : State → State → Type 0
 Heads a b = (a .processors ≡ b .processors) × (a .tasks ≡ b .tasks) × (a .resources ≡ b .resources)
 
-rested-heads : (st : State) (t : ℕ) → Heads (restedEnd st t) st
+-- with them the arrays' lengths
+abbrev Kept : State → State → Type 0
+Kept a b =
+    (a .processors ≡ b .processors) × (a .tasks ≡ b .tasks) × (a .resources ≡ b .resources) ×
+    (length (a .server) ≡ length (b .server)) × (length (a .task) ≡ length (b .task)) × (length (a .resource) ≡ length (b .resource))
+
+rested-kept : (st : State) (t : ℕ) → Kept (restedEnd st t) st
 unfolding restedEnd rested eachServer
-rested-heads st t = split (suspended (taskAt st (served st t) .mode)) (λ y. rw y (refl, refl, refl)) (λ n. rw n (refl, refl, refl))
+rested-kept st t =
+    split
+    (suspended (taskAt st (served st t) .mode))
+    (λ y. rw y (refl, refl, refl, length-setTo places _ (st .server), refl, refl))
+    (λ n. rw n (refl, refl, refl, refl, refl, refl))
+
+changed-kept : (st : State) (e : Event) → Kept (changed st e) st
+unfolding woken slept rested phased elapsed recharged eachServer locked unlocked granted joined freed passed
+changed-kept st (Wake t) = (refl, refl, refl, length-setTo places _ (st .server), length-set (st .task) _ _, refl)
+changed-kept st (Suspend t) = (refl, refl, refl, length-setTo places _ (st .server), length-set (st .task) _ _, refl)
+changed-kept st (Dispatch s) = (refl, refl, refl, length-set (st .server) _ _, refl, refl)
+changed-kept st (Preempt s) = (refl, refl, refl, length-set (st .server) _ _, refl, refl)
+changed-kept st (Elapse n) = (refl, refl, refl, length-setTo places _ (st .server), length-setTo places _ (st .task), refl)
+changed-kept st (Recharge s) = (refl, refl, refl, length-set (st .server) _ _, refl, refl)
+changed-kept st (Lock t r) =
+    split
+    (owned (resourceAt st r .owner))
+    (λ y.
+    let k = rested-kept (joined st (t .0) r) (t .0) in
+    rw y (k .0, k .1, k .2, k .3, k .4 ∙ length-set (st .task) _ _, k .5 ∙ length-set (st .resource) _ _))
+    (λ n. rw n (refl, refl, refl, refl, length-set (st .task) _ _, length-set (st .resource) _ _))
+changed-kept st (Unlock t r) =
+    split
+    (eqb (resourceAt st r .waiting) 0)
+    (λ y. rw y (refl, refl, refl, refl, length-set (st .task) _ _, length-set (st .resource) _ _))
+    (λ n. rw n (refl, refl, refl, refl, length-set (set (st .task) _ _) _ _ ∙ length-set (st .task) _ _, length-set (st .resource) _ _))
 
 pub heads-kept : (st : State) (e : Event) → Heads (changed st e) st
-unfolding woken slept rested phased elapsed recharged eachServer locked unlocked granted joined freed passed
-heads-kept st (Wake t) = (refl, refl, refl)
-heads-kept st (Suspend t) = (refl, refl, refl)
-heads-kept st (Dispatch s) = (refl, refl, refl)
-heads-kept st (Preempt s) = (refl, refl, refl)
-heads-kept st (Elapse n) = (refl, refl, refl)
-heads-kept st (Recharge s) = (refl, refl, refl)
-heads-kept st (Lock t r) =
-    split (owned (resourceAt st r .owner)) (λ y. rw y (rested-heads (joined st (t .0) r) (t .0))) (λ n. rw n (refl, refl, refl))
-heads-kept st (Unlock t r) = split (eqb (resourceAt st r .waiting) 0) (λ y. rw y (refl, refl, refl)) (λ n. rw n (refl, refl, refl))
+heads-kept st e = let k = changed-kept st e in (k .0, k .1, k .2)
 
 -- the clock: only an elapse moves it
 rested-clock : (st : State) (t : ℕ) → restedEnd st t .clock ≡ st .clock
@@ -373,41 +395,12 @@ queue-long st e q (owned-by t d g) = ap (λ z. length (z .queue)) d
 queue-long st e q (given-up t d g) = ap (λ z. length (z .queue)) d
 queue-long st e q (passed-on t d g some) = ap (λ z. length (z .queue)) d ∙ dequeued-long (resourceAt st q)
 
-abbrev Long : State → State → Type 0
-Long a b = (length (a .server) ≡ length (b .server)) × (length (a .task) ≡ length (b .task)) × (length (a .resource) ≡ length (b .resource))
-
-rested-long : (st : State) (t : ℕ) → Long (restedEnd st t) st
-unfolding restedEnd rested eachServer
-rested-long st t =
-    split (suspended (taskAt st (served st t) .mode)) (λ y. rw y (length-setTo places _ (st .server), refl, refl)) (λ n. rw n (refl, refl, refl))
-
-lists-long : (st : State) (e : Event) → Long (changed st e) st
-unfolding woken slept rested phased elapsed recharged eachServer locked unlocked granted joined freed passed
-lists-long st (Wake t) = (length-setTo places _ (st .server), length-set (st .task) _ _, refl)
-lists-long st (Suspend t) = (length-setTo places _ (st .server), length-set (st .task) _ _, refl)
-lists-long st (Dispatch s) = (length-set (st .server) _ _, refl, refl)
-lists-long st (Preempt s) = (length-set (st .server) _ _, refl, refl)
-lists-long st (Elapse n) = (length-setTo places _ (st .server), length-setTo places _ (st .task), refl)
-lists-long st (Recharge s) = (length-set (st .server) _ _, refl, refl)
-lists-long st (Lock t r) =
-    split
-    (owned (resourceAt st r .owner))
-    (λ y.
-    let m = rested-long (joined st (t .0) r) (t .0) in
-    rw y (m .0, m .1 ∙ length-set (st .task) _ _, m .2 ∙ length-set (st .resource) _ _))
-    (λ n. rw n (refl, length-set (st .task) _ _, length-set (st .resource) _ _))
-lists-long st (Unlock t r) =
-    split
-    (eqb (resourceAt st r .waiting) 0)
-    (λ y. rw y (refl, length-set (st .task) _ _, length-set (st .resource) _ _))
-    (λ n. rw n (refl, length-set (set (st .task) _ _) _ _ ∙ length-set (st .task) _ _, length-set (st .resource) _ _))
-
 pub changed-shaped : (st : State) → Shaped st → (e : Event) → Shaped (changed st e)
 unfolding tickedTask
 changed-shaped st s e = record {
-  servers = lists-long st e .0 ∙ s .servers;
-  tasks = lists-long st e .1 ∙ s .tasks;
-  resources = lists-long st e .2 ∙ s .resources;
+  servers = changed-kept st e .3 ∙ s .servers;
+  tasks = changed-kept st e .4 ∙ s .tasks;
+  resources = changed-kept st e .5 ∙ s .resources;
   stacks = λ t l.
       tasks-changed (λ k. length (k .held)) (λ m k. refl) (λ r k. length-set (k .held) _ _) (λ k. length-set (k .held) _ _) st e (λ n i d. refl) t
       ∙ s .stacks t l;
