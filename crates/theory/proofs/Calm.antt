@@ -1,25 +1,99 @@
--- Soundness in the parts in which it is kept: a server by itself (`Fits`), the clauses on locks (`Locks`), counts and the clock. `Calm` is all of
--- `Loose` but who executes, and that is what rule H restores from any state. Assumes nothing.
+-- Soundness in the parts in which it is kept. `Calm` is all of `Loose` but who executes: counts, the clock, one server at a time by whether the task
+-- that it serves sleeps (`Fits`), the clauses on locks (`Locks`), and what tasks executed. Rule H restores the two clauses on who executes from any
+-- calm, shaped state, once (`settled-loose`), so each event owes only that its change is calm. Chains, stacks and queues see of a state the counts, the
+-- resources, and what tasks hold and want; states that look the same to them are `Alike`, and `Locks` and every chain end are the same in them. The six
+-- events of tasks and servers and rule H make states that are alike. Assumes nothing.
 use mathlib.Core.Path.{_≡_, refl, sym, ap, _∙_}
-use mathlib.Core.Bool.{Bool, true}
+use mathlib.Core.Bool.{true, Bool}
 use mathlib.Core.Logic.{_⊎_, ⊎-elim}
 use Prim.Native.Nat.{ℕ, _+_, _<_, _≤_}
 use native.Mathlib.Omega.{arith}
-use lib.ListN.{length}
+use lib.ListN.{getD, length}
 use borrow.Author.Tests.{eq-eqb}
+use Rattle.laws.proofs.Standing.{same-standing}
 use Rattle.laws.proofs.Cases.{and-right, and-both}
-use Rattle.model.specs.declared.Server.{Server}
+use Rattle.model.specs.declared.TaskNo.{TaskNo}
+use Rattle.model.specs.declared.Task.{Task}
 use Rattle.model.specs.declared.State.{State}
-use Rattle.model.specs.State.{serverAt, taskAt, here, idle, recharging, suspended, served, runningAt, runningFor, executorOf, executing}
+use Rattle.model.specs.declared.Server.{Server}
+use Rattle.model.specs.State.{noResource, taskAt, resourceAt, inSet, here, present, declares, waiting, awaited, owned, ownerNo, ownerOf, next, served, serverAt, idle, recharging, suspended, runningAt, runningFor, executorOf, executing}
 use Rattle.model.specs.RuleH.{settled}
 use Rattle.model.specs.Sound.{clockLimit, heldAt, queuedAt}
 use Rattle.model.specs.Shape.{Shaped}
-use Rattle.model.proofs.Chain.{here-below, served-below}
-use Rattle.model.proofs.Sound.{Each, Executor, Serves, Loose}
-use Rattle.model.proofs.Room.{loose-stacks, loose-queues}
+use Rattle.model.proofs.Chain.{same-served, Open, here-below, served-below}
+use Rattle.model.proofs.Sound.{Each, EachResource, Declaration, Unqueued, Executor, Serves, Loose}
+use Rattle.model.proofs.Room.{Stacks, Queues, loose-stacks, loose-queues}
 use Rattle.model.proofs.RuleH.{settled-here, settled-served, settled-serves, settled-some}
-use Rattle.theory.proofs.Frames.{settled-task, settled-field}
-use Rattle.theory.proofs.Alike.{Locks, Same, same-self, Alike, alike-locks}
+use Rattle.theory.proofs.Frames.{heads-here, heads-present, settled-task, settled-field}
+
+pub record Locks (st : State) : Type 0 where
+  pub declaration : Each st (Declaration st)
+  pub stacks : Stacks st
+  pub queues : Queues st
+  pub unqueued : EachResource st (Unqueued st)
+  pub opens : Each st (Open st)
+
+-- tasks that hold and want the same
+pub record Same (k l : Task) : Type 0 where
+  pub wants : awaited (k .mode) ≡ awaited (l .mode)
+  pub waits : waiting (k .mode) ≡ waiting (l .mode)
+  pub may : k .declared ≡ l .declared
+  pub deep : k .depth ≡ l .depth
+  pub has : k .held ≡ l .held
+
+pub same-self : (k : Task) → Same k k
+same-self k = record { wants = refl; waits = refl; may = refl; deep = refl; has = refl }
+
+-- states whose tasks do, and whose resources are the same
+pub record Alike (a b : State) : Type 0 where
+  pub tasks : a .tasks ≡ b .tasks
+  pub resources : a .resources ≡ b .resources
+  pub resource : a .resource ≡ b .resource
+  pub task : (t : ℕ) → Same (taskAt a t) (taskAt b t)
+
+module _ (a b : State) (same : Alike a b) where
+  pub alike-here : (i : ℕ) → here a i ≡ here b i
+  alike-here = heads-here a b (same .tasks) (same .resources)
+
+  alike-present : (r : ℕ) → present a r ≡ present b r
+  alike-present = heads-present a b (same .tasks) (same .resources)
+
+  alike-resource : (r : ℕ) → resourceAt a r ≡ resourceAt b r
+  alike-resource r = ap (λ l. getD l r noResource) (same .resource)
+
+  alike-owner : (r : ℕ) → ownerOf a r ≡ ownerOf b r
+  unfolding ownerOf
+  alike-owner r = rw (alike-present r, alike-resource r, alike-here (ownerNo (resourceAt b r .owner)))
+
+  pub alike-next : (t : ℕ) → next a t ≡ next b t
+  unfolding next
+  alike-next t = rw (alike-here t, same .task t .wants, alike-owner (awaited (taskAt b t .mode)))
+
+  pub alike-served : (t : ℕ) → served a t ≡ served b t
+  alike-served = same-served a b alike-next
+
+  alike-declares : (t r : ℕ) → declares a t r ≡ declares b t r
+  unfolding declares
+  alike-declares t r = ap (λ d. inSet d r) (same .task t .may)
+
+  pub alike-locks : Locks b → Locks a
+  alike-locks l = record {
+    declaration = λ i u. rw (same .resources, same .task i .may) (l .declaration i (sym (alike-here i) ∙ u));
+    stacks =
+        same-standing
+        (λ r. sym (alike-present r)) (λ t. sym (alike-here t)) (λ t. sym (same .task t .deep)) (λ t j. ap (λ h. getD h j 0) (sym (same .task t .has)))
+        (λ r. ap (λ x. owned (x .owner)) (sym (alike-resource r))) (λ r. ap (λ x. ownerNo (x .owner)) (sym (alike-resource r)))
+        (λ t r. sym (alike-declares t r))
+        (l .stacks);
+    queues =
+        same-standing
+        (λ t. sym (alike-here t)) (λ r. sym (alike-present r)) (λ r. ap (λ x. x .waiting) (sym (alike-resource r)))
+        (λ r j. ap (λ x. getD {A = TaskNo} (x .queue) j (record { 0 = 0 }) .0) (sym (alike-resource r)))
+        (λ t. sym (same .task t .waits)) (λ t. sym (same .task t .wants)) (λ r t. sym (alike-declares t r))
+        (l .queues);
+    unqueued = λ r u. rw (alike-resource r) (l .unqueued r (sym (alike-present r) ∙ u));
+    opens = λ i u. rw (alike-served i, alike-next (served b i)) (l .opens i (sym (alike-here i) ∙ u));
+  }
 
 -- one server, by the clock and by whether the task that it serves is suspended
 pub record Fits (clock : ℕ) (asleep : Bool) (x : Server) : Type 0 where
@@ -37,12 +111,8 @@ pub fits-anew
     → Fits clock b x
 fits-anew clock a b x f i = record { reserved = f .reserved; due = f .due; within = f .within; empty = f .empty; idles = i; spent = f .spent }
 
-pub record Counts (processors tasks resources : ℕ) : Type 0 where
-  pub processors-least : 1 ≤ processors
-  pub processors-most : processors ≤ 8
-  pub tasks-least : 1 ≤ tasks
-  pub tasks-most : tasks ≤ 16
-  pub resources-most : resources ≤ 16
+abbrev pub Counts : ℕ → ℕ → ℕ → Type 0
+Counts processors tasks resources = (1 ≤ processors) × (processors ≤ 8) × (1 ≤ tasks) × (tasks ≤ 16) × (resources ≤ 16)
 
 -- the task that server s serves is suspended
 abbrev pub asleep : State → ℕ → Bool
@@ -66,13 +136,7 @@ loose-locks st h = record {
 
 pub loose-calm : (st : State) → Loose st → Calm st
 loose-calm st h = record {
-  counts = record {
-    processors-least = h .processors-least;
-    processors-most = h .processors-most;
-    tasks-least = h .tasks-least;
-    tasks-most = h .tasks-most;
-    resources-most = h .resources-most;
-  };
+  counts = (h .processors-least, h .processors-most, h .tasks-least, h .tasks-most, h .resources-most);
   time = h .clock-most;
   servers = λ i u. record {
     reserved = h .reservation i u;
@@ -89,11 +153,11 @@ loose-calm st h = record {
 pub calm-loose : (st : State) → Calm st → Each st (Executor st) → Each st (Serves st) → Loose st
 unfolding heldAt queuedAt
 calm-loose st h e s = record {
-  processors-least = h .counts .processors-least;
-  processors-most = h .counts .processors-most;
-  tasks-least = h .counts .tasks-least;
-  tasks-most = h .counts .tasks-most;
-  resources-most = h .counts .resources-most;
+  processors-least = h .counts .0;
+  processors-most = h .counts .1;
+  tasks-least = h .counts .2;
+  tasks-most = h .counts .3;
+  resources-most = h .counts .4;
   clock-most = h .time;
   reservation = λ i u. h .servers i u .reserved;
   declaration = h .locks .declaration;

@@ -31,11 +31,10 @@ use Rattle.model.proofs.RuleH.{serving-below, settled-served, settled-for, sett
 use Rattle.model.proofs.Grounds.{Grounds, grounds, unrefused-free}
 use Rattle.model.proofs.Variants.{running-is, suspended-is, ready-is}
 use Rattle.theory.specs.Demand2.{RuleH, RuleHAlways}
-use Rattle.theory.proofs.Alike.{alike-served}
-use Rattle.theory.proofs.Calm.{Calm, loose-calm}
+use Rattle.theory.proofs.Calm.{alike-served, Calm, loose-calm}
 use Rattle.theory.proofs.Frames.{heads-here, heads-kept, changed-shaped}
 use Rattle.theory.proofs.Serving.{put-alike, stirred-alike, elapsed-alike}
-use Rattle.theory.proofs.Granting.{quiet-served}
+use Rattle.theory.proofs.Locking.{quiet-served}
 use Rattle.theory.proofs.Outcomes.{stepped-sound, goes-none}
 use Rattle.theory.proofs.Readings.{for-running, for-served, running-here}
 

@@ -1,12 +1,10 @@
-pub mod Alike
 pub mod Frames
 pub mod Outcomes
 pub mod Processors
 pub mod Calm
 pub mod Serving
 pub mod StacksAndQueues
-pub mod Granting
-pub mod Waiting
+pub mod Locking
 pub mod Passing
 pub mod Soundness
 pub mod Executing
@@ -15,7 +13,6 @@ pub mod Ticks
 pub mod Groups
 pub mod Agreement
 pub mod Locality
-pub mod Answers
 pub mod Order
 pub mod Refusals
 pub mod Lambda

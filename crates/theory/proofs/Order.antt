@@ -1,53 +1,154 @@
 -- Demand 3: from a sound, shaped state, where neither order is refused for want of a processor, each event gets its one answer and the last states are
 -- equal. `free` is the machine without processors; on a sound state a step that is refused neither 1 nor 8 does what `free` does, and refusal 1 never
--- comes. `free` keeps `Good`, reads and writes what its group reads, and leaves the others alone (Locality.antt, Answers.antt), so it meets the laws of
--- reordering for any labelling that fits (`ordered`). The groups of document 01 are one: a task has its group's number, a resource that of the tasks
--- that declare it. Assumes nothing.
+-- comes. Whether `free` refuses an event and what it answers are its group's own matter (`verdict-same`, `answered-same`): each test reads what the group
+-- reads, a lock of another group's resource is refused at 2, 3 or 4 before its owner is read, and an unlock of one at 17. It keeps `Good`, and writes
+-- what is the group's alone (Locality.antt), so it meets the laws of reordering for any labelling that fits (`ordered`). The groups of document 01 are
+-- one: a task has its group's number, a resource that of the tasks that declare it. Assumes nothing.
 use mathlib.Core.Path.{_≡_, refl, sym, ap, _∙_}
-use mathlib.Core.Bool.{Bool, true, false, _||_, true≢false, _&&_}
+use mathlib.Core.Bool.{true, false, Bool, _||_, true≢false, _&&_}
 use mathlib.Core.Option.{Option, none, some}
 use mathlib.Core.List.{List, [], _∷_}
 use mathlib.Core.Logic.{⊎-elim}
 use Prim.Native.Nat.{ℕ}
 use native.Mathlib.Omega.{arith}
+use lib.Dec.{eqb}
 use lib.Seq.{ext-getD}
 use lib.ListN.{getElem? as at}
-use borrow.Author.Tests.{eq-eqb}
+use borrow.Author.Tests.{eqb-true, eqb-false, eq-eqb}
 use Rattle.laws.specs.Tests.{firstOf, without}
-use Rattle.laws.specs.Loops.{bestTo}
-use Rattle.laws.proofs.Cases.{split, holds-fails, first-without, and-left, and-right, and-both}
+use Rattle.laws.specs.Loops.{bestTo, countTo}
+use Rattle.laws.proofs.Cases.{split, unheld-fails, holds-fails, first-without, and-left, and-right, and-both}
+use Rattle.laws.proofs.Count.{count-ext}
 use Rattle.laws.proofs.Best.{best-is}
 use Rattle.reordering.specs.Order.{group, sees, Kind}
+use Rattle.reordering.proofs.Local.{group-inj, time-group, commute}
 use Rattle.reordering.specs.Machine.{Laws, Local}
-use Rattle.reordering.proofs.Local.{commute}
 use Rattle.reordering.specs.Place.{Matching}
 use Rattle.reordering.specs.Run.{after, log, Each, Never}
 use Rattle.reordering.proofs.Answer.{reorder-places}
 use Rattle.model.specs.declared.State.{State}
 use Rattle.model.specs.declared.Event.{Event}
+use Rattle.model.specs.declared.Event.the-variants.{Wake, Suspend, Dispatch, Preempt, Elapse, Recharge, Lock, Unlock}
+use Rattle.model.specs.declared.Answer.the-variants.{Ok}
 use Rattle.model.specs.declared.Answer.{Answer}
 use Rattle.model.specs.declared.Outcome.{Outcome}
 use Rattle.model.specs.declared.Table.{Table}
-use Rattle.model.specs.declared.Event.the-variants.{Wake, Suspend, Dispatch, Preempt, Elapse, Recharge, Lock, Unlock}
-use Rattle.model.specs.State.{noServer, noTask, noResource, here, declares, places, nobody, inSet}
+use Rattle.model.specs.State.{resourceAt, here, present, declares, owned, ownerNo, places, served, noServer, noTask, noResource, nobody, inSet}
+use Rattle.model.specs.Step.{tests, endsAt, topOf, answered, stateAfter, outcome, attempted, stepped, free, move}
+use Rattle.model.specs.Events.{wakes, rests, runsOut}
 use Rattle.model.specs.Sound.{sound}
-use Rattle.model.specs.Step.{tests, stateAfter, outcome, attempted, stepped, free, move}
 use Rattle.model.specs.Shape.{Shaped}
 use Rattle.model.specs.Fresh.{freshRefusal, freshState}
 use Rattle.model.specs.Groups.{itself, through, groupOf, anyKey, kindOf}
+use Rattle.model.proofs.Grounds.{Grounds, grounds}
 use Rattle.model.proofs.Chain.{here-below}
 use Rattle.model.proofs.Sound.{sound-facts}
 use Rattle.model.proofs.Fresh.{fresh-sound, fresh-shaped}
-use Rattle.model.proofs.Grounds.{grounds}
 use Rattle.theory.specs.Runs.{refusedBy}
+use Rattle.theory.proofs.Agreement.{Labels, Agree, Homed, here-same, present-same, executing-same, executes-same, served-same, served-home, Good, good-home, agree-sym, agree-trans, Fits, good-self}
+use Rattle.theory.proofs.Locality.{kindBy, lock-label, unlock-label, owned-label, wakes-same, rests-same, after-same, after-left}
 use Rattle.theory.proofs.Groups.{fact-shares, linked-group}
 use Rattle.theory.proofs.Outcomes.{stepped-sound, outcome-has, outcome-not, no-test-1}
 use Rattle.theory.proofs.Soundness.{free-kept, kept}
 use Rattle.theory.proofs.Frames.{declared-kept}
 use Rattle.theory.proofs.Steps.{after-here, after-present}
-use Rattle.theory.proofs.Agreement.{Labels, Agree, agree-sym, agree-trans, Fits, Good, good-home, good-self}
-use Rattle.theory.proofs.Locality.{kindBy, after-same, after-left}
-use Rattle.theory.proofs.Answers.{verdict, verdict-same, answered-same}
+
+-- the refusal, if there is one
+unfoldable pub verdict : State → Event → Option ℕ
+verdict st e = firstOf (without 8 (tests st e))
+
+module _ (l : Labels) (g : ℕ) (s u : State) (a : Agree l g s u) (good : Good l s) (fine : Good l u) where
+  abbrev hs : (i : ℕ) → here s i ≡ here u i
+  hs = here-same l g s u a
+
+  abbrev ps : (r : ℕ) → present s r ≡ present u r
+  ps = present-same l g s u a
+
+  -- the chain of a resource's owner
+  ends-same : (t r : ℕ) → present s r ≡ true → l .of-resource r ≡ g → endsAt s t r ≡ endsAt u t r
+  unfolding endsAt
+  ends-same t r p e =
+      split
+      (owned (resourceAt s r .owner))
+      (λ y.
+      let h : here s (ownerNo (resourceAt s r .owner)) ≡ true = good .loose .owner r p y in
+      let k : l .of-task (ownerNo (resourceAt s r .owner)) ≡ g = sym (good-home l s good .owns r p h) ∙ e in
+      rw (← (a .resource-same .entry r e), served-same l g s u a (good-home l s good) _ k) refl)
+      (λ n. rw (← (a .resource-same .entry r e), n) refl)
+
+  lock-same : (t r : ℕ) → l .of-task t ≡ g → verdict s (Lock (record { 0 = t }) r) ≡ verdict u (Lock (record { 0 = t }) r)
+  unfolding verdict firstOf without declares
+  lock-same t r e =
+      split
+      (here s t)
+      (λ h.
+      split
+      (present s r)
+      (λ p.
+      split
+      (declares s t r)
+      (λ d.
+      let k : l .of-resource r ≡ g = good .fits t r h p d ∙ e in
+      rw (hs t, ps r, executing-same l g s u a t e, ends-same t r p k, a .task-same .entry t e, a .resource-same .entry r k) refl)
+      (λ d. rw (sym (hs t) ∙ h, sym (ps r) ∙ p, h, p, ← (a .task-same .entry t e), d) refl))
+      (λ p. rw (sym (hs t) ∙ h, sym (ps r) ∙ p, h, p) refl))
+      (λ h. rw (sym (hs t) ∙ h, h) refl)
+
+  -- the resources of others t does not own
+  unowned : (t r : ℕ) → l .of-task t ≡ g → here s t ≡ true → present s r ≡ true → (l .of-resource r ≡ g → ⊥) →
+      (eqb (ownerNo (resourceAt s r .owner)) t ≡ false) × (eqb (ownerNo (resourceAt u r .owner)) t ≡ false)
+  unowned t r e h p n = (
+    unheld-fails _ (λ y. n (owned-label l s good t r h p (eqb-true _ t y) ∙ e)),
+    unheld-fails _ (λ y. n (owned-label l u fine t r (sym (hs t) ∙ h) (sym (ps r) ∙ p) (eqb-true _ t y) ∙ e)),
+  )
+
+  unlock-same : (t r : ℕ) → l .of-task t ≡ g → verdict s (Unlock (record { 0 = t }) r) ≡ verdict u (Unlock (record { 0 = t }) r)
+  unfolding verdict firstOf without topOf
+  unlock-same t r e =
+      split
+      (eqb (l .of-resource r) g)
+      (λ y. rw (hs t, ps r, executing-same l g s u a t e, a .task-same .entry t e, a .resource-same .entry r (eqb-true _ g y)) refl)
+      (λ n.
+      split
+      (here s t)
+      (λ h.
+      split
+      (present s r)
+      (λ p.
+      let o = unowned t r e h p (eqb-false _ g n) in
+      rw (hs t, ps r, executing-same l g s u a t e, o .0, o .1) refl)
+      (λ p. rw (sym (hs t) ∙ h, sym (ps r) ∙ p, h, p) refl))
+      (λ h. rw (sym (hs t) ∙ h, h) refl))
+
+  pub verdict-same : (e : Event) → kindBy l e ≡ group g → verdict s e ≡ verdict u e
+  unfolding verdict firstOf without
+  verdict-same (Wake t) k = rw (hs (t .0), a .task-same .entry (t .0) (group-inj k)) refl
+  verdict-same (Suspend t) k = rw (hs (t .0), executing-same l g s u a (t .0) (group-inj k)) refl
+  verdict-same (Dispatch x) k = rw (hs (x .0), a .server-same .entry (x .0) (group-inj k)) refl
+  verdict-same (Preempt x) k = rw (hs (x .0), a .server-same .entry (x .0) (group-inj k)) refl
+  verdict-same (Elapse n) k = absurd (time-group k)
+  verdict-same (Recharge x) k = rw (hs (x .0), a .server-same .entry (x .0) (group-inj k), a .clock-same) refl
+  verdict-same (Lock t r) k = lock-same (t .0) r (group-inj k)
+  verdict-same (Unlock t r) k = unlock-same (t .0) r (group-inj k)
+
+  -- the answer, from states before and after that agree; of an elapse it counts all servers
+  pub answered-same
+      : (v w : State) → Agree l g v w → Homed l v → (e : Event) → sees g (kindBy l e) ≡ true → Grounds s e
+      → ((n : ℕ) → e ≡ Elapse n → countTo places (runsOut s n) ≡ countTo places (runsOut u n)) → answered s v e ≡ answered u w e
+  answered-same v w b later (Wake t) k o counts =
+      ap Ok (count-ext places (wakes s (t .0)) (wakes u (t .0)) (λ i m. wakes-same l g s u a (good-home l s good) (good-home l u fine) (t .0) (eqb-true _ g k) i))
+  answered-same v w b later (Suspend t) k o counts =
+      ap Ok (count-ext places (rests s (t .0)) (rests u (t .0)) (λ i m. rests-same l g s u a (good-home l s good) (good-home l u fine) (t .0) (eqb-true _ g k) i))
+  answered-same v w b later (Dispatch x) k o counts =
+      rw (executes-same l g v w b later (x .0) (eqb-true _ g k), served-same l g v w b later (x .0) (eqb-true _ g k)) refl
+  answered-same v w b later (Preempt x) k o counts =
+      let q = b .task-same .entry (served s (x .0)) (served-home l s (good-home l s good) (x .0) ∙ eqb-true _ g k) in
+      rw (executes-same l g s u a (good-home l s good) (x .0) (eqb-true _ g k), ← (served-same l g s u a (good-home l s good) (x .0) (eqb-true _ g k)), q) refl
+  answered-same v w b later (Elapse n) k o counts = ap Ok (counts n refl)
+  answered-same v w b later (Recharge x) k o counts = rw (b .server-same .entry (x .0) (eqb-true _ g k)) refl
+  answered-same v w b later (Lock t r) k o counts =
+      rw (a .resource-same .entry r (lock-label l s good t r o ∙ eqb-true _ g k), served-same l g v w b later (t .0) (eqb-true _ g k)) refl
+  answered-same v w b later (Unlock t r) k o counts = rw (a .resource-same .entry r (unlock-label l s good t r o ∙ eqb-true _ g k)) refl
 
 -- `free` as a pair
 abbrev freely : State → Event → Answer × State
@@ -113,7 +214,8 @@ module _ (l : Labels) where
     reads-by : (v : Option ℕ) → verdict s e ≡ v → verdict u e ≡ v → outcome v s e .answer ≡ outcome v u e .answer
     unfolding free verdict
     reads-by none p q =
-        answered-same l g s u a good fine (stateAfter s e) (stateAfter u e) (after-same l g s u a good fine e seen (grounds s e p) (grounds u e q)) (rw p at (good-home l _ (good-keeps s e good))) e k (grounds s e p)
+        answered-same l g s u a good fine (stateAfter s e) (stateAfter u e) (after-same l g s u a good fine e seen (grounds s e p) (grounds u e q)) (rw p at (good-home l _ (good-keeps s e good))) e seen (grounds s e p)
+        (λ n q. absurd (time-group (ap (kindBy l) (sym q) ∙ k)))
     reads-by (some n) p q = refl
 
     reads : free s e .answer ≡ free u e .answer

@@ -41,8 +41,7 @@ use Rattle.theory.proofs.Frames.{settled-shaped, changed-shaped}
 use Rattle.theory.proofs.Calm.{Calm, loose-calm, settled-loose}
 use Rattle.theory.proofs.Executing.{runs-ready, runs-ended, runs-for}
 use Rattle.theory.proofs.Serving.{wake-calm, sleep-calm, dispatch-calm, preempt-calm, recharge-calm, elapse-calm}
-use Rattle.theory.proofs.Granting.{grant-calm, free-calm}
-use Rattle.theory.proofs.Waiting.{wait-calm}
+use Rattle.theory.proofs.Locking.{grant-calm, free-calm, wait-calm}
 use Rattle.theory.proofs.Passing.{pass-calm}
 use Rattle.theory.proofs.Outcomes.{stepped-sound, outcome-has, outcome-not, no-test-1}
 use Rattle.theory.proofs.Processors.{seated-after}

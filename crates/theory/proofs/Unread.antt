@@ -3,33 +3,31 @@
 use mathlib.Core.Path.{_≡_, refl, sym, ap, ap₂, _∙_}
 use mathlib.Core.Bool.{Bool, true, false, not, _||_}
 use mathlib.Core.List.{List, _∷_}
-use mathlib.Core.Logic.{_⊎_, inl, inr, ⊎-elim}
 use mathlib.Core.Option.{Option, none, some}
 use Prim.Native.Nat.{ℕ, _+_}
 use native.Mathlib.Omega.{arith}
 use lib.Dec.{ltb, eqb}
+use borrow.Author.Tests.{eq-eqb}
 use Rattle.laws.specs.Tests.{if_then_else_, _when_or_, accepted, firstOf, without}
 use Rattle.laws.proofs.Cases.{split, holds-fails, unheld-fails, if-yes, first-yes}
 use Rattle.laws.proofs.Count.{count-ext}
 use Rattle.laws.proofs.All.{all-ext}
-use Rattle.reordering.specs.Order.{time, group, sees}
-use Rattle.reordering.proofs.Local.{time-group}
+use Rattle.reordering.specs.Order.{group, sees}
 use Rattle.model.specs.declared.State.{State}
 use Rattle.model.specs.declared.Outcome.{Outcome}
 use Rattle.model.specs.declared.Event.{Event}
 use Rattle.model.specs.declared.Event.the-variants.{Wake, Suspend, Dispatch, Preempt, Elapse, Recharge, Lock, Unlock}
-use Rattle.model.specs.declared.Answer.the-variants.{Ok}
 use Rattle.model.specs.State.{places, serverAt, taskAt, resourceAt, here, present, declares, served, runningAt, runningFor}
 use Rattle.model.specs.Sound.{clockLimit, each, ifHere, heldAt, queuedAt, sound}
 use Rattle.model.specs.Shape.{Shaped}
 use Rattle.model.specs.Events.{runsOut}
-use Rattle.model.specs.Step.{crowded, affords, tests, answered, stateAfter, outcome, stepped}
+use Rattle.model.specs.Step.{crowded, affords, tests, stateAfter, outcome, stepped}
 use Rattle.model.proofs.Sound.{Loose, sound-facts}
 use Rattle.model.proofs.Grounds.{Grounds, grounds, unrefused-free}
 use Rattle.theory.proofs.Outcomes.{stepped-has, stepped-sound}
 use Rattle.theory.proofs.Agreement.{Labels, Agree, Homed, agree-sym, here-same, present-same, next-same, served-same, served-in, for-same, Good}
 use Rattle.theory.proofs.Locality.{kindBy, after-same}
-use Rattle.theory.proofs.Answers.{verdict, verdict-same, answered-same}
+use Rattle.theory.proofs.Order.{verdict, verdict-same, answered-same}
 use Rattle.theory.proofs.Steps.{after-here, after-present}
 
 -- what is in use has the label 0
@@ -186,49 +184,33 @@ module _ (l : Labels) (s u : State) (c : Covers l s) (a : Agree l 0 s u) (shaped
   firsts (Unlock t r) = by-actor s u (t .0) _ _ (here-same l 0 s u a (t .0)) (λ h. verdict-same l 0 s u a good fine (Unlock t r) (ap group (c .task (t .0) h)))
 
   -- an accepted event is time passing or the group's own
-  kinds : (e : Event) → Grounds s e → (kindBy l e ≡ time) ⊎ (kindBy l e ≡ group 0)
-  kinds (Wake t) g = inr (ap group (c .task (t .0) (g .0)))
-  kinds (Suspend t) g = inr (ap group (c .task (t .0) (g .0)))
-  kinds (Dispatch x) g = inr (ap group (c .task (x .0) (g .0)))
-  kinds (Preempt x) g = inr (ap group (c .task (x .0) (g .0)))
-  kinds (Elapse n) g = inl refl
-  kinds (Recharge x) g = inr (ap group (c .task (x .0) (g .0)))
-  kinds (Lock t r) g = inr (ap group (c .task (t .0) (g .0)))
-  kinds (Unlock t r) g = inr (ap group (c .task (t .0) (g .0)))
+  seen : (e : Event) → Grounds s e → sees 0 (kindBy l e) ≡ true
+  seen (Wake t) g = eq-eqb _ 0 (c .task (t .0) (g .0))
+  seen (Suspend t) g = eq-eqb _ 0 (c .task (t .0) (g .0))
+  seen (Dispatch x) g = eq-eqb _ 0 (c .task (x .0) (g .0))
+  seen (Preempt x) g = eq-eqb _ 0 (c .task (x .0) (g .0))
+  seen (Elapse n) g = refl
+  seen (Recharge x) g = eq-eqb _ 0 (c .task (x .0) (g .0))
+  seen (Lock t r) g = eq-eqb _ 0 (c .task (t .0) (g .0))
+  seen (Unlock t r) g = eq-eqb _ 0 (c .task (t .0) (g .0))
 
   after-home : (e : Event) → Homed l (stateAfter s e)
   after-home e =
       covered-home l (stateAfter s e)
       (record { task = λ i h. c .task i (sym (after-here s e i) ∙ h); resource = λ r p. c .resource r (sym (after-present s e r) ∙ p) })
 
-  -- only an elapse is time
-  told-time : (v w : State) (e : Event) → kindBy l e ≡ time → answered s v e ≡ answered u w e
-  told-time v w (Wake t) k = absurd (time-group (sym k))
-  told-time v w (Suspend t) k = absurd (time-group (sym k))
-  told-time v w (Dispatch x) k = absurd (time-group (sym k))
-  told-time v w (Preempt x) k = absurd (time-group (sym k))
-  told-time v w (Elapse n) k = ap Ok (count-ext places (runsOut s n) (runsOut u n) (λ i m. out-both n i))
-  told-time v w (Recharge x) k = absurd (time-group (sym k))
-  told-time v w (Lock t r) k = absurd (time-group (sym k))
-  told-time v w (Unlock t r) k = absurd (time-group (sym k))
-
   -- one answer, and agreement after it
   abbrev Both : (v w : Outcome) → Type 0
   Both v w = (v .answer ≡ w .answer) × Agree l 0 (v .state) (w .state)
 
   outcomes : (e : Event) (v : Option ℕ) → firstOf (tests s e) ≡ v → firstOf (tests u e) ≡ v → Both (outcome v s e) (outcome v u e)
-  unfolding verdict
   outcomes e none p q =
-      let fs : verdict s e ≡ none = unrefused-free s e p in
-      let fu : verdict u e ≡ none = unrefused-free u e q in
-      ⊎-elim
-      (λ k.
-      let b = after-same l 0 s u a good fine e (ap (sees 0) k) (grounds s e fs) (grounds u e fu) in
-      (told-time (stateAfter s e) (stateAfter u e) e k, b))
-      (λ k.
-      let b = after-same l 0 s u a good fine e (ap (sees 0) k) (grounds s e fs) (grounds u e fu) in
-      (answered-same l 0 s u a good fine (stateAfter s e) (stateAfter u e) b (after-home e) e k (grounds s e fs), b))
-      (kinds e (grounds s e fs))
+      let gs = grounds s e (unrefused-free s e p) in
+      let b = after-same l 0 s u a good fine e (seen e gs) gs (grounds u e (unrefused-free u e q)) in (
+        answered-same l 0 s u a good fine (stateAfter s e) (stateAfter u e) b (after-home e) e (seen e gs) gs
+            (λ n d. count-ext places (runsOut s n) (runsOut u n) (λ i m. out-both n i)),
+        b,
+      )
   outcomes e (some n) p q = (refl, a)
 
   pub sound-unread : (e : Event) → Both (stepped s e) (stepped u e)
