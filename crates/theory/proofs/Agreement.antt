@@ -3,14 +3,7 @@
 -- soundness and holds of the state between change and rule H too, and it is all that locality needs: chains stay inside a label (`served-home`), so
 -- what a group reads is its own: ends, who serves, who executes, whom rule H would choose. `Good` is what `free` keeps; nothing in it speaks of
 -- processors. Every number has a label, so entries past the counts and undeclared resources need nothing special. Assumes nothing.
-use mathlib.Core.Path.{_≡_, refl, sym, ap, _∙_}
-use mathlib.Core.Bool.{Bool, true, false, _&&_}
-use mathlib.Core.Logic.{inl, inr}
-use Prim.Native.Nat.{ℕ, zero, suc, _<_}
-use native.Mathlib.Omega.{arith}
-use lib.Dec.{ltb, eqb}
-use lib.ListN.{length}
-use borrow.Author.Tests.{ltb-true, eqb-true, eqb-false}
+use Rattle.theory.proofs.Kit.{_≡_, refl, sym, ap, _∙_, Bool, true, false, _&&_, inl, inr, ℕ, zero, suc, _<_, arith, ltb, eqb, length, ltb-true, eqb-true, eqb-false}
 use Rattle.laws.proofs.Cases.{split, and-left, and-right}
 use Rattle.laws.proofs.SameAt.{SameAt, same-refl, same-sym, same-trans}
 use Rattle.model.specs.declared.State.{State}

@@ -3,19 +3,10 @@
 -- calm, shaped state, once (`settled-loose`), so each event owes only that its change is calm. Chains, stacks and queues see of a state the counts, the
 -- resources, and what tasks hold and want; states that look the same to them are `Alike`, and `Locks` and every chain end are the same in them. The six
 -- events of tasks and servers and rule H make states that are alike. Assumes nothing.
-use mathlib.Core.Path.{_≡_, refl, sym, ap, _∙_}
-use mathlib.Core.Bool.{true, Bool}
-use mathlib.Core.Logic.{_⊎_, ⊎-elim}
-use Prim.Native.Nat.{ℕ, _+_, _<_, _≤_}
-use native.Mathlib.Omega.{arith}
-use lib.ListN.{getD, length}
-use borrow.Author.Tests.{eq-eqb}
+use Rattle.theory.proofs.Kit.{_≡_, refl, sym, ap, _∙_, true, Bool, _⊎_, ⊎-elim, ℕ, _+_, _<_, _≤_, arith, getD, length, eq-eqb}
 use Rattle.laws.proofs.Standing.{same-standing}
 use Rattle.laws.proofs.Cases.{and-right, and-both}
-use Rattle.model.specs.declared.TaskNo.{TaskNo}
-use Rattle.model.specs.declared.Task.{Task}
-use Rattle.model.specs.declared.State.{State}
-use Rattle.model.specs.declared.Server.{Server}
+use Rattle.theory.proofs.Declared.{TaskNo, Task, State, Server}
 use Rattle.model.specs.State.{noResource, taskAt, resourceAt, inSet, here, present, declares, waiting, awaited, owned, ownerNo, ownerOf, next, served, serverAt, idle, recharging, suspended, runningAt, runningFor, executorOf, executing}
 use Rattle.model.specs.RuleH.{settled}
 use Rattle.model.specs.Sound.{clockLimit, heldAt, queuedAt}

@@ -2,22 +2,10 @@
 -- three steps, and no choice left (`rule-h`), from the laws of rule H on the state after the change, which is shaped. And where nobody comes to wait
 -- or stops waiting every server serves the task that it served (`served-kept`): the six events of tasks and servers make states that are alike to
 -- chains, a grant and a release with nobody waiting change no link. Leans on Frames, Alike, Serving and Granting. Assumes nothing.
-use mathlib.Core.Path.{_≡_, refl, sym, ap, _∙_}
-use mathlib.Core.Bool.{true, false, true≢false}
-use mathlib.Core.Logic.{⊎-elim, _⊎_, inl, inr}
-use mathlib.Core.Option.{none, some}
-use Prim.Native.Nat.{ℕ, _≤_, _<_}
-use native.Mathlib.Omega.{arith}
-use lib.Dec.{ltb}
-use lib.ListN.{length}
-use borrow.Author.Tests.{eq-eqb, ltb-true, ltb-false}
+use Rattle.theory.proofs.Kit.{_≡_, refl, sym, ap, _∙_, true, false, true≢false, ⊎-elim, _⊎_, inl, inr, none, some, ℕ, _≤_, _<_, arith, ltb, length, eq-eqb, ltb-true, ltb-false}
 use Rattle.laws.specs.Tests.{firstOf}
 use Rattle.laws.proofs.Cases.{split, holds-fails, unheld-fails, and-left, and-right}
-use Rattle.model.specs.declared.Phase.the-variants.{Running}
-use Rattle.model.specs.declared.Mode.the-variants.{Suspended, Ready}
-use Rattle.model.specs.declared.State.{State}
-use Rattle.model.specs.declared.Event.{Event}
-use Rattle.model.specs.declared.Event.the-variants.{Wake, Suspend, Dispatch, Preempt, Elapse, Recharge, Lock, Unlock}
+use Rattle.theory.proofs.Declared.{Running, Suspended, Ready, State, Event, Wake, Suspend, Dispatch, Preempt, Elapse, Recharge, Lock, Unlock}
 use Rattle.model.specs.State.{places, serverAt, taskAt, resourceAt, here, present, idle, recharging, suspended, waiting, awaited, owned, next, served, runningAt, runningFor, executorOf, executing}
 use Rattle.model.specs.Shape.{Shaped}
 use Rattle.model.specs.RuleH.{budgetAt, chosen, settled}

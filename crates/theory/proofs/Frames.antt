@@ -3,30 +3,11 @@
 -- `TaskMade`, `ResourceMade`): that is `server-after`, `task-after`, `resource-after`. What no rewriting touches no event touches: fields (`servers-left`, `tasks-left`), the counts
 -- (`heads-kept`), the arrays' sixteen places (`changed-shaped`). What no event reaches stays: entries past the counts (`past-kept`), and in
 -- Locality.antt the entries of other groups. Rule H writes one field of tasks (`settled-task`). Assumes nothing.
-use mathlib.Core.Path.{_≡_, refl, sym, ap, subst, _∙_}
-use mathlib.Core.Bool.{true, false, _||_, _&&_}
-use mathlib.Core.Logic.{_⊎_, inl, inr, ⊎-elim}
-use Prim.Native.Nat.{ℕ, _<_}
-use native.Mathlib.Omega.{arith}
-use lib.Dec.{eqb}
-use lib.ListN.{length, getD, set, length-set}
-use borrow.Author.Tests.{eqb-true, eqb-false}
+use Rattle.theory.proofs.Kit.{_≡_, refl, sym, ap, subst, _∙_, true, false, _||_, _&&_, _⊎_, inl, inr, ⊎-elim, ℕ, _<_, arith, eqb, length, getD, set, length-set, eqb-true, eqb-false}
 use Rattle.laws.proofs.Cases.{split, holds-fails, if-yes, if-no, and-right}
 use Rattle.laws.proofs.Lists.{store-cases}
 use Rattle.laws.proofs.Set.{length-setTo, each-cases, setTo-keeps}
-use Rattle.model.specs.declared.TaskNo.{TaskNo}
-use Rattle.model.specs.declared.Phase.{Phase}
-use Rattle.model.specs.declared.Phase.the-variants.{Idle, Active, Running}
-use Rattle.model.specs.declared.Mode.{Mode}
-use Rattle.model.specs.declared.Mode.the-variants.{Suspended, Ready, Waiting}
-use Rattle.model.specs.declared.Runs.{Runs}
-use Rattle.model.specs.declared.Owner.the-variants.{Nobody, By}
-use Rattle.model.specs.declared.Server.{Server}
-use Rattle.model.specs.declared.Task.{Task}
-use Rattle.model.specs.declared.Resource.{Resource}
-use Rattle.model.specs.declared.State.{State}
-use Rattle.model.specs.declared.Event.{Event}
-use Rattle.model.specs.declared.Event.the-variants.{Wake, Suspend, Dispatch, Preempt, Elapse, Recharge, Lock, Unlock}
+use Rattle.theory.proofs.Declared.{TaskNo, Phase, Idle, Active, Running, Mode, Suspended, Ready, Waiting, Runs, Nobody, By, Server, Task, Resource, State, Event, Wake, Suspend, Dispatch, Preempt, Elapse, Recharge, Lock, Unlock}
 use Rattle.model.specs.State.{places, noServer, noTask, noResource, serverAt, taskAt, resourceAt, inUse, here, present, idle, active, running, suspended, owned, served}
 use Rattle.model.specs.Shape.{Shaped}
 use Rattle.model.specs.RuleH.{withRuns, settledTask, settled}

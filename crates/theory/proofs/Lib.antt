@@ -1,3 +1,5 @@
+pub mod Kit
+pub mod Declared
 pub mod Frames
 pub mod Outcomes
 pub mod Processors

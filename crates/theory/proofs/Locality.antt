@@ -3,31 +3,14 @@
 -- accepted event reaches only entries with the label of the task that acts (`server-label`, `task-label`, `resource-label`), so the change leaves the
 -- rest alone (Frames.antt); rule H changes nothing in a loose state, whoever acts (`settled-still`), so what was left alone before rule H is left
 -- alone by it, by `settled-same` and with no second proof. An elapse is seen by every group. Leans on Agreement.antt. Assumes nothing.
-use mathlib.Core.Path.{_≡_, refl, sym, ap, subst, _∙_}
-use mathlib.Core.Bool.{true, false, _&&_, _||_, true≢false}
-use mathlib.Core.List.{List}
-use mathlib.Core.Logic.{inr, ⊎-elim}
-use Prim.Native.Nat.{ℕ, _+_, _<_}
-use lib.Dec.{ltb, eqb}
-use borrow.Author.Tests.{eqb-true, ltb-true, lt-ltb}
+use Rattle.theory.proofs.Kit.{_≡_, refl, sym, ap, subst, _∙_, true, false, _&&_, _||_, true≢false, List, inr, ⊎-elim, ℕ, _+_, _<_, ltb, eqb, eqb-true, ltb-true, lt-ltb}
 use Rattle.laws.specs.Loops.{setTo}
 use Rattle.laws.proofs.Cases.{split, holds-fails, unheld-fails}
 use Rattle.laws.proofs.Set.{set-kept}
 use Rattle.laws.proofs.SameAt.{SameAt, store-both, stored-both, each-both}
 use Rattle.reordering.specs.Order.{Kind, time, group, sees}
 use Rattle.reordering.proofs.Local.{group-inj, time-group}
-use Rattle.model.specs.declared.TaskNo.{TaskNo}
-use Rattle.model.specs.declared.Phase.the-variants.{Active, Running}
-use Rattle.model.specs.declared.Mode.the-variants.{Suspended, Ready, Waiting}
-use Rattle.model.specs.declared.Runs.{Runs}
-use Rattle.model.specs.declared.Runs.the-variants.{Nowhere, In}
-use Rattle.model.specs.declared.Owner.the-variants.{Nobody, By}
-use Rattle.model.specs.declared.Server.{Server}
-use Rattle.model.specs.declared.Task.{Task}
-use Rattle.model.specs.declared.Resource.{Resource}
-use Rattle.model.specs.declared.State.{State}
-use Rattle.model.specs.declared.Event.{Event}
-use Rattle.model.specs.declared.Event.the-variants.{Wake, Suspend, Dispatch, Preempt, Elapse, Recharge, Lock, Unlock}
+use Rattle.theory.proofs.Declared.{TaskNo, Active, Running, Suspended, Ready, Waiting, Runs, Nowhere, In, Nobody, By, Server, Task, Resource, State, Event, Wake, Suspend, Dispatch, Preempt, Elapse, Recharge, Lock, Unlock}
 use Rattle.model.specs.State.{places, noServer, noTask, noResource, serverAt, taskAt, resourceAt, here, present, idle, active, running, suspended, awaited, owned, ownerNo, placed, placeNo, served, runningFor, executorOf}
 use Rattle.model.specs.RuleH.{chosen, executorBy, runsIn, settledTask, settled}
 use Rattle.model.specs.Events.{withPhase, refilled, withMode, serverBy, eachServer, wakes, wokenServer, woken, rests, restedServer, rested, slept, phased, ownTicks, lentTicks, spinTicks, runsOut, spentServer, tickedTask, taskBy, elapsed, rechargedPhase, recharged, pushed, popped, withOwner, enqueued, dequeued, firstWaiter, granted, joined, restedEnd, locked, freed, passed, unlocked, changed, acting}

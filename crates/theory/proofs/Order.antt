@@ -4,17 +4,8 @@
 -- reads, a lock of another group's resource is refused at 2, 3 or 4 before its owner is read, and an unlock of one at 17. It keeps `Good`, and writes
 -- what is the group's alone (Locality.antt), so it meets the laws of reordering for any labelling that fits (`ordered`). The groups of document 01 are
 -- one: a task has its group's number, a resource that of the tasks that declare it. Assumes nothing.
-use mathlib.Core.Path.{_≡_, refl, sym, ap, _∙_}
-use mathlib.Core.Bool.{true, false, Bool, _||_, true≢false, _&&_}
-use mathlib.Core.Option.{Option, none, some}
-use mathlib.Core.List.{List, [], _∷_}
-use mathlib.Core.Logic.{⊎-elim}
-use Prim.Native.Nat.{ℕ}
-use native.Mathlib.Omega.{arith}
-use lib.Dec.{eqb}
-use lib.Seq.{ext-getD}
+use Rattle.theory.proofs.Kit.{_≡_, refl, sym, ap, _∙_, true, false, Bool, _||_, true≢false, _&&_, Option, none, some, List, [], _∷_, ⊎-elim, ℕ, arith, eqb, ext-getD, eqb-true, eqb-false, eq-eqb}
 use lib.ListN.{getElem? as at}
-use borrow.Author.Tests.{eqb-true, eqb-false, eq-eqb}
 use Rattle.laws.specs.Tests.{firstOf, without}
 use Rattle.laws.specs.Loops.{bestTo, countTo}
 use Rattle.laws.proofs.Cases.{split, unheld-fails, holds-fails, first-without, and-left, and-right, and-both}
@@ -26,13 +17,7 @@ use Rattle.reordering.specs.Machine.{Laws, Local}
 use Rattle.reordering.specs.Place.{Matching}
 use Rattle.reordering.specs.Run.{after, log, Each, Never}
 use Rattle.reordering.proofs.Answer.{reorder-places}
-use Rattle.model.specs.declared.State.{State}
-use Rattle.model.specs.declared.Event.{Event}
-use Rattle.model.specs.declared.Event.the-variants.{Wake, Suspend, Dispatch, Preempt, Elapse, Recharge, Lock, Unlock}
-use Rattle.model.specs.declared.Answer.the-variants.{Ok}
-use Rattle.model.specs.declared.Answer.{Answer}
-use Rattle.model.specs.declared.Outcome.{Outcome}
-use Rattle.model.specs.declared.Table.{Table}
+use Rattle.theory.proofs.Declared.{State, Event, Wake, Suspend, Dispatch, Preempt, Elapse, Recharge, Lock, Unlock, Ok, Answer, Outcome, Table}
 use Rattle.model.specs.State.{resourceAt, here, present, declares, owned, ownerNo, places, served, noServer, noTask, noResource, nobody, inSet}
 use Rattle.model.specs.Step.{tests, endsAt, topOf, answered, stateAfter, outcome, attempted, stepped, free, move}
 use Rattle.model.specs.Events.{wakes, rests, runsOut}

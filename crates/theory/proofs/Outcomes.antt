@@ -2,19 +2,11 @@
 -- state after an accepted event is one on steps by `stepped-has`; so entries past the counts stay (`past-kept`), in a state of any shape, because no
 -- accepted event reaches them. No test has number 1 and no accepted answer refuses, so refusal 1 means an unsound state and nothing else.
 -- Leans on Frames.antt. Assumes nothing.
-use mathlib.Core.Path.{_≡_, refl, sym, ap, _∙_}
-use mathlib.Core.Bool.{true, false, true≢false}
-use mathlib.Core.Option.{Option, none, some}
-use mathlib.Core.Logic.{⊎-elim}
-use Prim.Native.Nat.{ℕ}
-use lib.Dec.{eqb}
-use borrow.Author.Tests.{ne-eqb}
+use Rattle.theory.proofs.Kit.{_≡_, refl, sym, ap, _∙_, true, false, true≢false, Option, none, some, ⊎-elim, ℕ, eqb, ne-eqb}
 use Rattle.laws.specs.Tests.{firstOf, without}
 use Rattle.laws.proofs.Cases.{split, holds-fails, if-no, first-without, without-never}
 use Rattle.laws.proofs.Set.{each-cases}
-use Rattle.model.specs.declared.State.{State}
-use Rattle.model.specs.declared.Event.{Event}
-use Rattle.model.specs.declared.Event.the-variants.{Wake, Suspend, Dispatch, Preempt, Elapse, Recharge, Lock, Unlock}
+use Rattle.theory.proofs.Declared.{State, Event, Wake, Suspend, Dispatch, Preempt, Elapse, Recharge, Lock, Unlock}
 use Rattle.model.specs.State.{places, noTask, serverAt, taskAt, resourceAt, here, present, owned, executes}
 use Rattle.model.specs.Sound.{sound}
 use Rattle.model.specs.RuleH.{settledTask, settled}

@@ -1,25 +1,12 @@
 -- Processors: a server that runs after an event's change ran before it or is the one that the event dispatches (`ran-by`, from what an event can make
 -- of a server, Frames.antt). So the layer chooses nobody (`dispatch-only`), and at most as many servers run as there are processors (`seated-after`):
 -- only a dispatch adds one, and it is refused where all are taken. Rule H changes no phase. Assumes nothing.
-use mathlib.Core.Path.{_≡_, refl, sym, ap, _∙_}
-use mathlib.Core.Bool.{Bool, true, false, _&&_}
-use mathlib.Core.Logic.{_⊎_, inl, inr, ⊎-elim}
-use mathlib.Core.Option.{none}
-use Prim.Native.Nat.{ℕ, _<_, _≤_}
-use native.Mathlib.Omega.{arith}
-use lib.Seq.{getD-set-other}
-use borrow.Author.Tests.{leb-false}
+use Rattle.theory.proofs.Kit.{_≡_, refl, sym, ap, _∙_, Bool, true, false, _&&_, _⊎_, inl, inr, ⊎-elim, none, ℕ, _<_, _≤_, arith, getD-set-other, leb-false}
 use Rattle.laws.specs.Tests.{if_then_else_, firstOf}
 use Rattle.laws.specs.Loops.{countTo}
 use Rattle.laws.proofs.Cases.{holds-fails, and-left, and-right, and-both, none-fails, none-later}
 use Rattle.laws.proofs.Count.{bit-le, count-ext, count-mono, count-but-one}
-use Rattle.model.specs.declared.Phase.{Phase}
-use Rattle.model.specs.declared.Phase.the-variants.{Running, Recharging}
-use Rattle.model.specs.declared.ServerNo.{ServerNo}
-use Rattle.model.specs.declared.Server.{Server}
-use Rattle.model.specs.declared.State.{State}
-use Rattle.model.specs.declared.Event.{Event}
-use Rattle.model.specs.declared.Event.the-variants.{Wake, Suspend, Dispatch, Preempt, Elapse, Recharge, Lock, Unlock}
+use Rattle.theory.proofs.Declared.{Phase, Running, Recharging, ServerNo, Server, State, Event, Wake, Suspend, Dispatch, Preempt, Elapse, Recharge, Lock, Unlock}
 use Rattle.model.specs.State.{places, noServer, serverAt, here, running, runningAt}
 use Rattle.model.specs.RuleH.{settled}
 use Rattle.model.specs.Events.{withPhase, phased, runsOut, spentServer, changed, acting}

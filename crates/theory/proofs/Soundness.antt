@@ -3,25 +3,14 @@
 -- `free` keeps a state loose and shaped (`free-kept`), a step keeps it sound (`kept`), and every state that a list of events reaches from a fresh
 -- table is sound (`sound-always`). From that: refusal 1 never comes, a task executes in one server and does where a Running server serves it, a
 -- resource has one owner, and waiting never goes in a circle. Assumes nothing.
-use mathlib.Core.Path.{_≡_, refl, sym, _∙_, ap}
-use mathlib.Core.Bool.{true, true≢false, false}
-use mathlib.Core.Option.{some}
-use mathlib.Core.List.{List, [], _∷_}
-use Prim.Native.Nat.{ℕ, _<_}
-use native.Mathlib.Omega.{arith}
-use lib.Dec.{eqb}
-use borrow.Author.Tests.{eqb-true, eqb-false, eq-eqb}
+use Rattle.theory.proofs.Kit.{_≡_, refl, sym, _∙_, ap, true, true≢false, false, some, List, [], _∷_, ℕ, _<_, arith, eqb, eqb-true, eqb-false, eq-eqb}
 use Rattle.laws.specs.Tests.{firstOf, without, bit}
 use Rattle.laws.specs.Loops.{countTo}
 use Rattle.laws.proofs.Cases.{split, holds-fails, unheld-fails, and-left, and-right, and-both}
 use Rattle.laws.proofs.Count.{count-zero, count-but-one}
 use Rattle.laws.proofs.Standing.{stands-points}
 use Rattle.reordering.specs.Run.{after, log, Each, Never}
-use Rattle.model.specs.declared.TaskNo.{TaskNo}
-use Rattle.model.specs.declared.State.{State}
-use Rattle.model.specs.declared.Event.{Event}
-use Rattle.model.specs.declared.Event.the-variants.{Wake, Suspend, Dispatch, Preempt, Elapse, Recharge, Lock, Unlock}
-use Rattle.model.specs.declared.Table.{Table}
+use Rattle.theory.proofs.Declared.{TaskNo, State, Event, Wake, Suspend, Dispatch, Preempt, Elapse, Recharge, Lock, Unlock, Table}
 use Rattle.model.specs.State.{places, taskAt, resourceAt, owned, ownerNo, served, here, placed, runningAt, runningFor, executorOf, executing, executes}
 use Rattle.model.specs.Shape.{Shaped}
 use Rattle.model.specs.Events.{firstWaiter, locked, unlocked, changed, acting}

@@ -2,24 +2,12 @@
 -- touch them: a resource taken or given up, a task that enters a queue or leaves it as its first. A stack and a queue are one thing, items that stand
 -- once in the box that they point to, so each move is one of two laws (laws/proofs/Standing.antt, with model/proofs/Boxes.antt for the one box that
 -- changes). Assumes nothing.
-use mathlib.Core.Path.{_≡_, refl, sym, ap, _∙_}
-use mathlib.Core.Bool.{true, false}
-use Prim.Native.Nat.{ℕ, _+_, _<_, _≤_}
-use native.Mathlib.Omega.{arith}
-use lib.Dec.{eqb}
-use lib.ListN.{length, getD, length-set}
-use lib.Seq.{getD-set-same, getD-set-other}
-use borrow.Author.Tests.{eqb-true, eqb-false}
+use Rattle.theory.proofs.Kit.{_≡_, refl, sym, ap, _∙_, true, false, ℕ, _+_, _<_, _≤_, arith, eqb, length, getD, length-set, getD-set-same, getD-set-other, eqb-true, eqb-false}
 use Rattle.laws.specs.Tests.{if_then_else_, bit}
 use Rattle.laws.proofs.Cases.{split}
 use Rattle.laws.proofs.Lists.{set-keeps}
 use Rattle.laws.proofs.Standing.{same-standing, put-standing, taken-standing}
-use Rattle.model.specs.declared.TaskNo.{TaskNo}
-use Rattle.model.specs.declared.Mode.the-variants.{Ready, Waiting}
-use Rattle.model.specs.declared.Owner.the-variants.{Nobody, By}
-use Rattle.model.specs.declared.Task.{Task}
-use Rattle.model.specs.declared.Resource.{Resource}
-use Rattle.model.specs.declared.State.{State}
+use Rattle.theory.proofs.Declared.{TaskNo, Ready, Waiting, Nobody, By, Task, Resource, State}
 use Rattle.model.specs.State.{places, nobody, noTask, noResource, taskAt, resourceAt, inSet, here, present, declares, waiting, awaited, owned, ownerNo}
 use Rattle.model.specs.Shape.{Shaped}
 use Rattle.model.specs.Events.{withTask, withResource, withMode, withOwner, pushed, popped, enqueued, dequeued, firstWaiter, granted, freed, joined}

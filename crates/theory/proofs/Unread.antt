@@ -1,22 +1,12 @@
 -- What lies past the counts is not read: two states that agree on what is in use are sound together, get one answer to an event and agree after it.
 -- What is in use is a group, for any labels that give it the number 0; so most of it is what the theorems on order say of a group. Assumes nothing.
-use mathlib.Core.Path.{_≡_, refl, sym, ap, ap₂, _∙_}
-use mathlib.Core.Bool.{Bool, true, false, not, _||_}
-use mathlib.Core.List.{List, _∷_}
-use mathlib.Core.Option.{Option, none, some}
-use Prim.Native.Nat.{ℕ, _+_}
-use native.Mathlib.Omega.{arith}
-use lib.Dec.{ltb, eqb}
-use borrow.Author.Tests.{eq-eqb}
+use Rattle.theory.proofs.Kit.{_≡_, refl, sym, ap, ap₂, _∙_, Bool, true, false, not, _||_, List, _∷_, Option, none, some, ℕ, _+_, arith, ltb, eqb, eq-eqb}
 use Rattle.laws.specs.Tests.{if_then_else_, _when_or_, accepted, firstOf, without}
 use Rattle.laws.proofs.Cases.{split, holds-fails, unheld-fails, if-yes, first-yes}
 use Rattle.laws.proofs.Count.{count-ext}
 use Rattle.laws.proofs.All.{all-ext}
 use Rattle.reordering.specs.Order.{group, sees}
-use Rattle.model.specs.declared.State.{State}
-use Rattle.model.specs.declared.Outcome.{Outcome}
-use Rattle.model.specs.declared.Event.{Event}
-use Rattle.model.specs.declared.Event.the-variants.{Wake, Suspend, Dispatch, Preempt, Elapse, Recharge, Lock, Unlock}
+use Rattle.theory.proofs.Declared.{State, Outcome, Event, Wake, Suspend, Dispatch, Preempt, Elapse, Recharge, Lock, Unlock}
 use Rattle.model.specs.State.{places, serverAt, taskAt, resourceAt, here, present, declares, served, runningAt, runningFor}
 use Rattle.model.specs.Sound.{clockLimit, each, ifHere, heldAt, queuedAt, sound}
 use Rattle.model.specs.Shape.{Shaped}
