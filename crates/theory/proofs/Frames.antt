@@ -1,6 +1,6 @@
 -- Frames: what an event can make of one server, of one task and of one resource, whatever the state. Each entry after the event's change stays as it
--- was, or the event reaches it (`ServerReached`, `TaskReached`, `ResourceReached`) and it is one of a few rewritings of itself (`ServerMade`,
--- `TaskMade`, `ResourceMade`): that is `server-after`, `task-after`, `resource-after`. What no rewriting touches no event touches: fields (`servers-left`, `tasks-left`), the counts
+-- was, or it is one of a few rewritings of itself (`ServerMade`, `TaskMade`, `ResourceMade`) that say by which event and why: that is `server-after`,
+-- `task-after`, `resource-after`. What no rewriting touches no event touches: fields (`servers-left`, `tasks-left`), the counts
 -- (`heads-kept`), the arrays' sixteen places (`changed-shaped`). What no event reaches stays: entries past the counts (`past-kept`), and in
 -- Locality.antt the entries of other groups. Rule H writes one field of tasks (`settled-task`). Assumes nothing.
 use Rattle.theory.proofs.Kit.{_≡_, refl, sym, ap, subst, _∙_, true, false, _||_, _&&_, _⊎_, inl, inr, ⊎-elim, ℕ, _<_, arith, eqb, length, getD, set, length-set, eqb-true, eqb-false}
@@ -99,7 +99,7 @@ clock-kept st (Recharge s) other = refl
 clock-kept st (Lock t r) other = split (owned (resourceAt st r .owner)) (λ y. rw y (rested-clock (joined st (t .0) r) (t .0))) (λ n. rw n)
 clock-kept st (Unlock t r) other = split (eqb (resourceAt st r .waiting) 0) (λ y. rw y) (λ n. rw n)
 
--- which entries an event reaches
+-- which servers an event reaches
 abbrev pub ServerReached : State → Event → ℕ → Type 0
 ServerReached st (Wake t) i = (here st i ≡ true) × (served st i ≡ t .0)
 ServerReached st (Suspend t) i = (here st i ≡ true) × (served st i ≡ t .0)
@@ -111,58 +111,40 @@ ServerReached st (Lock t r) i =
     (here st i ≡ true) × (owned (resourceAt st r .owner) ≡ true) × (served (joined st (t .0) r) i ≡ served (joined st (t .0) r) (t .0))
 ServerReached st (Unlock t r) i = ⊥
 
-abbrev pub TaskReached : State → Event → ℕ → Type 0
-TaskReached st (Wake t) i = i ≡ t .0
-TaskReached st (Suspend t) i = i ≡ t .0
-TaskReached st (Dispatch s) i = ⊥
-TaskReached st (Preempt s) i = ⊥
-TaskReached st (Elapse n) i = here st i ≡ true
-TaskReached st (Recharge s) i = ⊥
-TaskReached st (Lock t r) i = i ≡ t .0
-TaskReached st (Unlock t r) i = (i ≡ t .0) ⊎ ((0 < resourceAt st r .waiting) × (i ≡ firstWaiter (resourceAt st r)))
-
-abbrev pub ResourceReached : Event → ℕ → Type 0
-ResourceReached (Wake t) q = ⊥
-ResourceReached (Suspend t) q = ⊥
-ResourceReached (Dispatch s) q = ⊥
-ResourceReached (Preempt s) q = ⊥
-ResourceReached (Elapse n) q = ⊥
-ResourceReached (Recharge s) q = ⊥
-ResourceReached (Lock t r) q = q ≡ r
-ResourceReached (Unlock t r) q = q ≡ r
-
--- what it makes of them
+-- what it makes of a server, a task, a resource
 pub data ServerMade (st : State) (e : Event) (i : ℕ) (x : Server) : Type 0 where
   in-phase : (p : Phase) → x ≡ withPhase p (serverAt st i) → (running p ≡ true → e ≡ Dispatch (record { 0 = i })) → ServerMade st e i x
   refills : (p : Phase) → x ≡ refilled p (st .clock) (serverAt st i) → running p ≡ false → ServerMade st e i x
   spends : (n : ℕ) → x ≡ spentServer st n i → e ≡ Elapse n → ServerMade st e i x
 
 pub data TaskMade (st : State) (e : Event) (i : ℕ) (x : Task) : Type 0 where
-  wakes-up : x ≡ withMode Ready (taskAt st i) → TaskMade st e i x
-  sleeps : x ≡ withMode Suspended (taskAt st i) → TaskMade st e i x
-  waits : (t : TaskNo) (r : ℕ) → x ≡ withMode (Waiting r) (taskAt st i) → e ≡ Lock t r → i ≡ t .0 → TaskMade st e i x
-  takes : (r : ℕ) → x ≡ pushed r (taskAt st i) → TaskMade st e i x
-  inherits : (r : ℕ) → x ≡ pushed r (withMode Ready (taskAt st i)) → TaskMade st e i x
-  gives : x ≡ popped (taskAt st i) → TaskMade st e i x
-  ticks : (n : ℕ) → x ≡ tickedTask st n i → e ≡ Elapse n → TaskMade st e i x
+  wakes-up : (t : TaskNo) → e ≡ Wake t → i ≡ t .0 → x ≡ withMode Ready (taskAt st i) → TaskMade st e i x
+  sleeps : (t : TaskNo) → e ≡ Suspend t → i ≡ t .0 → x ≡ withMode Suspended (taskAt st i) → TaskMade st e i x
+  waits : (t : TaskNo) (r : ℕ) → e ≡ Lock t r → i ≡ t .0 → x ≡ withMode (Waiting r) (taskAt st i) → TaskMade st e i x
+  takes : (t : TaskNo) (r : ℕ) → e ≡ Lock t r → i ≡ t .0 → x ≡ pushed r (taskAt st i) → TaskMade st e i x
+  gives : (t : TaskNo) (r : ℕ) → e ≡ Unlock t r → i ≡ t .0 → x ≡ popped (taskAt st i) → TaskMade st e i x
+  inherits
+      : (t : TaskNo) (r : ℕ) → e ≡ Unlock t r → 0 < resourceAt st r .waiting → i ≡ firstWaiter (resourceAt st r)
+      → x ≡ pushed r (withMode Ready (taskAt st i)) → TaskMade st e i x
+  ticks : (n : ℕ) → e ≡ Elapse n → here st i ≡ true → x ≡ tickedTask st n i → TaskMade st e i x
 
 pub data ResourceMade (st : State) (e : Event) (q : ℕ) (x : Resource) : Type 0 where
-  queued : (t : TaskNo) → x ≡ enqueued (t .0) (resourceAt st q) → e ≡ Lock t q → ResourceMade st e q x
-  owned-by : (t : TaskNo) → x ≡ withOwner (By (record { 0 = t .0 })) (resourceAt st q) → e ≡ Lock t q → ResourceMade st e q x
-  given-up : (t : TaskNo) → x ≡ withOwner Nobody (resourceAt st q) → e ≡ Unlock t q → ResourceMade st e q x
+  queued : (t : TaskNo) → e ≡ Lock t q → x ≡ enqueued (t .0) (resourceAt st q) → ResourceMade st e q x
+  owned-by : (t : TaskNo) → e ≡ Lock t q → x ≡ withOwner (By (record { 0 = t .0 })) (resourceAt st q) → ResourceMade st e q x
+  given-up : (t : TaskNo) → e ≡ Unlock t q → x ≡ withOwner Nobody (resourceAt st q) → ResourceMade st e q x
   passed-on
-      : (t : TaskNo) → x ≡ withOwner (By (record { 0 = firstWaiter (resourceAt st q) })) (dequeued (resourceAt st q))
-      → e ≡ Unlock t q → 0 < resourceAt st q .waiting → ResourceMade st e q x
+      : (t : TaskNo) → e ≡ Unlock t q → 0 < resourceAt st q .waiting
+      → x ≡ withOwner (By (record { 0 = firstWaiter (resourceAt st q) })) (dequeued (resourceAt st q)) → ResourceMade st e q x
 
--- an entry stays, or is reached and made so
+-- an entry stays, or is made so
 abbrev pub ServerAfter : State → Event → ℕ → Server → Type 0
 ServerAfter st e i x = (x ≡ serverAt st i) ⊎ (ServerReached st e i × ServerMade st e i x)
 
 abbrev pub TaskAfter : State → Event → ℕ → Task → Type 0
-TaskAfter st e i x = (x ≡ taskAt st i) ⊎ (TaskReached st e i × TaskMade st e i x)
+TaskAfter st e i x = (x ≡ taskAt st i) ⊎ TaskMade st e i x
 
 abbrev pub ResourceAfter : State → Event → ℕ → Resource → Type 0
-ResourceAfter st e q x = (x ≡ resourceAt st q) ⊎ (ResourceReached e q × ResourceMade st e q x)
+ResourceAfter st e q x = (x ≡ resourceAt st q) ⊎ ResourceMade st e q x
 
 -- servers
 rests-serves : (u : State) (t i : ℕ) → rests u t i ≡ true → served u i ≡ t
@@ -248,7 +230,7 @@ module _ (st : State) where
   joined-after : (t : TaskNo) (r i : ℕ) → TaskAfter st (Lock t r) i (taskAt (restedEnd (joined st (t .0) r) (t .0)) i)
   unfolding restedEnd rested eachServer joined
   joined-after t r i =
-      let new = keep-after (Lock t r) (t .0) (withMode (Waiting r) (taskAt st (t .0))) (inr (refl, waits t r refl refl refl)) i in
+      let new = keep-after (Lock t r) (t .0) (withMode (Waiting r) (taskAt st (t .0))) (inr (waits t r refl refl refl)) i in
       split (suspended (taskAt (joined st (t .0) r) (served (joined st (t .0) r) (t .0)) .mode)) (λ y. rw y new) (λ n. rw n new)
 
   passed-after
@@ -257,22 +239,22 @@ module _ (st : State) where
   passed-after t r i some =
       let h : ℕ = firstWaiter (resourceAt st r) in
       ⊎-elim
-      (λ c. rw (c .1, c .0) (inr (inr (some, refl), inherits r refl)))
-      (λ c. subst (TaskAfter st (Unlock t r) i) (sym c) (keep-after (Unlock t r) (t .0) (popped (taskAt st (t .0))) (inr (inl refl, gives refl)) i))
+      (λ c. rw (c .1, c .0) (inr (inherits t r refl some refl refl)))
+      (λ c. subst (TaskAfter st (Unlock t r) i) (sym c) (keep-after (Unlock t r) (t .0) (popped (taskAt st (t .0))) (inr (gives t r refl refl refl)) i))
       (store-cases (set (st .task) (t .0) (popped (taskAt st (t .0)))) h (pushed r (withMode Ready (taskAt st h))) noTask i)
 
   ticked-after : (n i : ℕ) → TaskAfter st (Elapse n) i (taskAt (elapsed st n) i)
   unfolding elapsed eachServer taskBy
   ticked-after n i =
       ⊎-elim
-      (λ c. split (here st i) (λ h. inr (h, ticks n (c ∙ if-yes _ _ _ h) refl)) (λ m. inl (c ∙ if-no _ _ _ m)))
+      (λ c. split (here st i) (λ h. inr (ticks n refl h (c ∙ if-yes _ _ _ h))) (λ m. inl (c ∙ if-no _ _ _ m)))
       (λ c. inl c)
       (each-cases places (taskBy st (tickedTask st n)) (st .task) noTask i)
 
   pub task-after : (e : Event) (i : ℕ) → TaskAfter st e i (taskAt (changed st e) i)
   unfolding woken slept rested eachServer phased recharged locked unlocked granted freed
-  task-after (Wake t) i = keep-after (Wake t) (t .0) _ (inr (refl, wakes-up refl)) i
-  task-after (Suspend t) i = keep-after (Suspend t) (t .0) _ (inr (refl, sleeps refl)) i
+  task-after (Wake t) i = keep-after (Wake t) (t .0) _ (inr (wakes-up t refl refl refl)) i
+  task-after (Suspend t) i = keep-after (Suspend t) (t .0) _ (inr (sleeps t refl refl refl)) i
   task-after (Dispatch s) i = inl refl
   task-after (Preempt s) i = inl refl
   task-after (Elapse n) i = ticked-after n i
@@ -281,11 +263,11 @@ module _ (st : State) where
       split
       (owned (resourceAt st r .owner))
       (λ y. rw y (joined-after t r i))
-      (λ n. rw n (keep-after (Lock t r) (t .0) _ (inr (refl, takes r refl)) i))
+      (λ n. rw n (keep-after (Lock t r) (t .0) _ (inr (takes t r refl refl refl)) i))
   task-after (Unlock t r) i =
       split
       (eqb (resourceAt st r .waiting) 0)
-      (λ y. rw y (keep-after (Unlock t r) (t .0) _ (inr (inl refl, gives refl)) i))
+      (λ y. rw y (keep-after (Unlock t r) (t .0) _ (inr (gives t r refl refl refl)) i))
       (λ n. rw n (passed-after t r i (omega (arith, eqb-false (resourceAt st r .waiting) 0 n))))
 
   -- resources
@@ -295,7 +277,7 @@ module _ (st : State) where
   queued-after : (t : TaskNo) (r q : ℕ) → ResourceAfter st (Lock t r) q (resourceAt (restedEnd (joined st (t .0) r) (t .0)) q)
   unfolding restedEnd rested eachServer joined
   queued-after t r q =
-      let new = own-after (Lock t r) r (enqueued (t .0) (resourceAt st r)) (inr (refl, queued t refl refl)) q in
+      let new = own-after (Lock t r) r (enqueued (t .0) (resourceAt st r)) (inr (queued t refl refl)) q in
       split (suspended (taskAt (joined st (t .0) r) (served (joined st (t .0) r) (t .0)) .mode)) (λ y. rw y new) (λ n. rw n new)
 
   pub resource-after : (e : Event) (q : ℕ) → ResourceAfter st e q (resourceAt (changed st e) q)
@@ -310,12 +292,12 @@ module _ (st : State) where
       split
       (owned (resourceAt st r .owner))
       (λ y. rw y (queued-after t r q))
-      (λ n. rw n (own-after (Lock t r) r _ (inr (refl, owned-by t refl refl)) q))
+      (λ n. rw n (own-after (Lock t r) r _ (inr (owned-by t refl refl)) q))
   resource-after (Unlock t r) q =
       split
       (eqb (resourceAt st r .waiting) 0)
-      (λ y. rw y (own-after (Unlock t r) r _ (inr (refl, given-up t refl refl)) q))
-      (λ n. rw n (own-after (Unlock t r) r _ (inr (refl, passed-on t refl refl (omega (arith, eqb-false (resourceAt st r .waiting) 0 n)))) q))
+      (λ y. rw y (own-after (Unlock t r) r _ (inr (given-up t refl refl)) q))
+      (λ n. rw n (own-after (Unlock t r) r _ (inr (passed-on t refl (omega (arith, eqb-false (resourceAt st r .waiting) 0 n)) refl)) q))
 
 -- what no rewriting touches: a field of servers that sees neither phase nor budget and deadline,
 module _
@@ -347,16 +329,16 @@ module _
   where
     module _ (st : State) (e : Event) (ticked : (n t : ℕ) → e ≡ Elapse n → f (tickedTask st n t) ≡ f (taskAt st t)) (i : ℕ) where
       task-left : {x : Task} → TaskMade st e i x → f x ≡ f (taskAt st i)
-      task-left (wakes-up q) = ap f q ∙ mode Ready (taskAt st i)
-      task-left (sleeps q) = ap f q ∙ mode Suspended (taskAt st i)
-      task-left (waits t r q d g) = ap f q ∙ mode (Waiting r) (taskAt st i)
-      task-left (takes r q) = ap f q ∙ push r (taskAt st i)
-      task-left (inherits r q) = ap f q ∙ push r (withMode Ready (taskAt st i)) ∙ mode Ready (taskAt st i)
-      task-left (gives q) = ap f q ∙ pop (taskAt st i)
-      task-left (ticks n q d) = ap f q ∙ ticked n i d
+      task-left (wakes-up t d k q) = ap f q ∙ mode Ready (taskAt st i)
+      task-left (sleeps t d k q) = ap f q ∙ mode Suspended (taskAt st i)
+      task-left (waits t r d k q) = ap f q ∙ mode (Waiting r) (taskAt st i)
+      task-left (takes t r d k q) = ap f q ∙ push r (taskAt st i)
+      task-left (inherits t r d some k q) = ap f q ∙ push r (withMode Ready (taskAt st i)) ∙ mode Ready (taskAt st i)
+      task-left (gives t r d k q) = ap f q ∙ pop (taskAt st i)
+      task-left (ticks n d k q) = ap f q ∙ ticked n i d
 
       pub tasks-changed : f (taskAt (changed st e) i) ≡ f (taskAt st i)
-      tasks-changed = ⊎-elim (ap f) (λ k. task-left (k .1)) (task-after st e i)
+      tasks-changed = ⊎-elim (ap f) task-left (task-after st e i)
 
     pub tasks-left
         : ((x : Runs) (k : Task) → f (withRuns x k) ≡ f k) → (st : State) (e : Event)
@@ -371,10 +353,10 @@ declared-kept st e t = tasks-left (λ k. k .declared) (λ m k. refl) (λ r k. re
 
 -- and the length of every array
 queue-long : (st : State) (e : Event) (q : ℕ) {x : Resource} → ResourceMade st e q x → length (x .queue) ≡ length (resourceAt st q .queue)
-queue-long st e q (queued t d g) = ap (λ z. length (z .queue)) d ∙ length-set (resourceAt st q .queue) _ _
-queue-long st e q (owned-by t d g) = ap (λ z. length (z .queue)) d
-queue-long st e q (given-up t d g) = ap (λ z. length (z .queue)) d
-queue-long st e q (passed-on t d g some) = ap (λ z. length (z .queue)) d ∙ dequeued-long (resourceAt st q)
+queue-long st e q (queued t g d) = ap (λ z. length (z .queue)) d ∙ length-set (resourceAt st q .queue) _ _
+queue-long st e q (owned-by t g d) = ap (λ z. length (z .queue)) d
+queue-long st e q (given-up t g d) = ap (λ z. length (z .queue)) d
+queue-long st e q (passed-on t g some d) = ap (λ z. length (z .queue)) d ∙ dequeued-long (resourceAt st q)
 
 pub changed-shaped : (st : State) → Shaped st → (e : Event) → Shaped (changed st e)
 unfolding tickedTask
@@ -385,7 +367,7 @@ changed-shaped st s e = record {
   stacks = λ t l.
       tasks-changed (λ k. length (k .held)) (λ m k. refl) (λ r k. length-set (k .held) _ _) (λ k. length-set (k .held) _ _) st e (λ n i d. refl) t
       ∙ s .stacks t l;
-  queues = λ q l. ⊎-elim (ap (λ z. length (z .queue))) (λ k. queue-long st e q (k .1)) (resource-after st e q) ∙ s .queues q l;
+  queues = λ q l. ⊎-elim (ap (λ z. length (z .queue))) (queue-long st e q) (resource-after st e q) ∙ s .queues q l;
 }
 
 pub settled-shaped : (old st : State) (acting : ℕ) → Shaped st → Shaped (settled old acting st)
@@ -410,23 +392,17 @@ module _ (st : State) where
   server-here (Lock t r) i g k = k .0
   server-here (Unlock t r) i g k = absurd k
 
-  pub task-here : Loose st → (e : Event) (i : ℕ) → Grounds st e → TaskReached st e i → here st i ≡ true
-  task-here facts (Wake t) i g k = ap (here st) k ∙ g .0
-  task-here facts (Suspend t) i g k = ap (here st) k ∙ g .0
-  task-here facts (Dispatch s) i g k = absurd k
-  task-here facts (Preempt s) i g k = absurd k
-  task-here facts (Elapse n) i g k = k
-  task-here facts (Recharge s) i g k = absurd k
-  task-here facts (Lock t r) i g k = ap (here st) k ∙ g .0
-  task-here facts (Unlock t r) i g k =
-      ⊎-elim (λ q. ap (here st) q ∙ g .0) (λ h. ap (here st) (h .1) ∙ first-here st facts r (g .1) (h .0)) k
+  pub task-here : Loose st → (e : Event) (i : ℕ) {x : Task} → Grounds st e → TaskMade st e i x → here st i ≡ true
+  task-here facts e i g (wakes-up t d k q) = ap (here st) k ∙ subst (Grounds st) d g .0
+  task-here facts e i g (sleeps t d k q) = ap (here st) k ∙ subst (Grounds st) d g .0
+  task-here facts e i g (waits t r d k q) = ap (here st) k ∙ subst (Grounds st) d g .0
+  task-here facts e i g (takes t r d k q) = ap (here st) k ∙ subst (Grounds st) d g .0
+  task-here facts e i g (gives t r d k q) = ap (here st) k ∙ subst (Grounds st) d g .0
+  task-here facts e i g (inherits t r d some k q) = ap (here st) k ∙ first-here st facts r (subst (Grounds st) d g .1) some
+  task-here facts e i g (ticks n d k q) = k
 
-  pub resource-here : (e : Event) (q : ℕ) → Grounds st e → ResourceReached e q → present st q ≡ true
-  resource-here (Wake t) q g k = absurd k
-  resource-here (Suspend t) q g k = absurd k
-  resource-here (Dispatch s) q g k = absurd k
-  resource-here (Preempt s) q g k = absurd k
-  resource-here (Elapse n) q g k = absurd k
-  resource-here (Recharge s) q g k = absurd k
-  resource-here (Lock t r) q g k = ap (present st) k ∙ g .1
-  resource-here (Unlock t r) q g k = ap (present st) k ∙ g .1
+  pub resource-here : (e : Event) (q : ℕ) {x : Resource} → Grounds st e → ResourceMade st e q x → present st q ≡ true
+  resource-here e q g (queued t d z) = subst (Grounds st) d g .1
+  resource-here e q g (owned-by t d z) = subst (Grounds st) d g .1
+  resource-here e q g (given-up t d z) = subst (Grounds st) d g .1
+  resource-here e q g (passed-on t d some z) = subst (Grounds st) d g .1

@@ -20,7 +20,7 @@ use Rattle.model.proofs.Grounds.{Grounds}
 use Rattle.model.proofs.Room.{first-here, first-waits}
 use Rattle.model.proofs.RuleH.{serving-below}
 use Rattle.model.proofs.Sound.{Loose}
-use Rattle.theory.proofs.Frames.{heads-here, heads-present, heads-kept, clock-kept, changed-shaped, ServerReached, TaskReached, ResourceReached, TaskMade, wakes-up, sleeps, waits, takes, inherits, gives, ticks, ResourceMade, queued, owned-by, given-up, passed-on, server-after, task-after, resource-after}
+use Rattle.theory.proofs.Frames.{heads-here, heads-present, heads-kept, clock-kept, changed-shaped, ServerReached, TaskMade, wakes-up, sleeps, waits, takes, inherits, gives, ticks, ResourceMade, queued, owned-by, given-up, passed-on, server-after, task-after, resource-after}
 use Rattle.theory.proofs.Readings.{for-running, for-served, running-here}
 use Rattle.theory.proofs.Agreement.{Labels, Agree, Homed, Good, good-home, good-self, here-same, running-same, executing-same, executes-same, executor-of-same, served-same, served-home, served-in, serves-same, for-same, chosen-same}
 
@@ -61,20 +61,20 @@ module _ (l : Labels) (st : State) (good : Good l st) where
     -- the change keeps waiters and owners at home
     task-home : (i : ℕ) {x : Task} → TaskMade st e i x → here st i ≡ true → present st (awaited (x .mode)) ≡ true → l .of-resource (awaited (x .mode)) ≡ l .of-task i
     unfolding present tickedTask
-    task-home i (wakes-up q) h = rw q (λ p. absurd (true≢false (sym p)))
-    task-home i (sleeps q) h = rw q (λ p. absurd (true≢false (sym p)))
-    task-home i (waits t r q d m) h = rw q (λ p. lock-label t r (subst (Grounds st) d g) ∙ ap (l .of-task) (sym m))
-    task-home i (takes r q) h = rw q (home .waits i h)
-    task-home i (inherits r q) h = rw q (λ p. absurd (true≢false (sym p)))
-    task-home i (gives q) h = rw q (home .waits i h)
-    task-home i (ticks n q d) h = rw q (home .waits i h)
+    task-home i (wakes-up t d k q) h = rw q (λ p. absurd (true≢false (sym p)))
+    task-home i (sleeps t d k q) h = rw q (λ p. absurd (true≢false (sym p)))
+    task-home i (waits t r d k q) h = rw q (λ p. lock-label t r (subst (Grounds st) d g) ∙ ap (l .of-task) (sym k))
+    task-home i (takes t r d k q) h = rw q (home .waits i h)
+    task-home i (gives t r d k q) h = rw q (home .waits i h)
+    task-home i (inherits t r d some k q) h = rw q (λ p. absurd (true≢false (sym p)))
+    task-home i (ticks n d k q) h = rw q (home .waits i h)
 
     resource-home : (r : ℕ) {x : Resource} → ResourceMade st e r x → present st r ≡ true → here st (ownerNo (x .owner)) ≡ true → l .of-resource r ≡ l .of-task (ownerNo (x .owner))
     unfolding here
-    resource-home r (queued t q d) p = rw q (home .owns r p)
-    resource-home r (owned-by t q d) p = rw q (λ h. lock-label t r (subst (Grounds st) d g))
-    resource-home r (given-up t q d) p = rw q (λ h. absurd (true≢false (sym h)))
-    resource-home r (passed-on t q d some) p = rw q (λ h. heir-label r p some)
+    resource-home r (queued t d q) p = rw q (home .owns r p)
+    resource-home r (owned-by t d q) p = rw q (λ h. lock-label t r (subst (Grounds st) d g))
+    resource-home r (given-up t d q) p = rw q (λ h. absurd (true≢false (sym h)))
+    resource-home r (passed-on t d some q) p = rw q (λ h. heir-label r p some)
 
     pub changed-home : Homed l (changed st e)
     changed-home =
@@ -84,10 +84,10 @@ module _ (l : Labels) (st : State) (good : Good l st) where
         record {
           waits = λ t h p.
               let k = sym (hs t) ∙ h in
-              ⊎-elim (λ q. rw q (λ x. home .waits t k x)) (λ m. task-home t (m .1) k) (task-after st e t) (sym (ps _) ∙ p);
+              ⊎-elim (λ q. rw q (λ x. home .waits t k x)) (λ m. task-home t m k) (task-after st e t) (sym (ps _) ∙ p);
           owns = λ r p h.
               let k = sym (ps r) ∙ p in
-              ⊎-elim (λ q. rw q (λ x. home .owns r k x)) (λ m. resource-home r (m .1) k) (resource-after st e r) (sym (hs _) ∙ h);
+              ⊎-elim (λ q. rw q (λ x. home .owns r k x)) (λ m. resource-home r m k) (resource-after st e r) (sym (hs _) ∙ h);
         }
 
   -- servers at rest are no waiters and own nothing
@@ -116,29 +116,23 @@ module _ (l : Labels) (st : State) (good : Good l st) where
         sym (served-home l _ mid i) ∙ ap (l .of-task) (q .2) ∙ served-home l _ mid (t .0) ∙ group-inj k
     server-label (Unlock t r) c k i q = absurd q
 
-    task-label : (e : Event) → Grounds st e → kindBy l e ≡ group g → (i : ℕ) → TaskReached st e i → l .of-task i ≡ g
-    task-label (Wake t) c k i q = ap (l .of-task) q ∙ group-inj k
-    task-label (Suspend t) c k i q = ap (l .of-task) q ∙ group-inj k
-    task-label (Dispatch s) c k i q = absurd q
-    task-label (Preempt s) c k i q = absurd q
-    task-label (Elapse n) c k i q = absurd (time-group k)
-    task-label (Recharge s) c k i q = absurd q
-    task-label (Lock t r) c k i q = ap (l .of-task) q ∙ group-inj k
-    task-label (Unlock t r) c k i q =
-        ⊎-elim
-        (λ d. ap (l .of-task) d ∙ group-inj k)
-        (λ d. ap (l .of-task) (d .1) ∙ sym (heir-label r (c .1) (d .0)) ∙ unlock-label t r c ∙ group-inj k)
-        q
+    module _ (e : Event) (c : Grounds st e) (k : kindBy l e ≡ group g) where
+      task-label : (i : ℕ) {x : Task} → TaskMade st e i x → l .of-task i ≡ g
+      task-label i (wakes-up t d q z) = ap (l .of-task) q ∙ group-inj (ap (kindBy l) (sym d) ∙ k)
+      task-label i (sleeps t d q z) = ap (l .of-task) q ∙ group-inj (ap (kindBy l) (sym d) ∙ k)
+      task-label i (waits t r d q z) = ap (l .of-task) q ∙ group-inj (ap (kindBy l) (sym d) ∙ k)
+      task-label i (takes t r d q z) = ap (l .of-task) q ∙ group-inj (ap (kindBy l) (sym d) ∙ k)
+      task-label i (gives t r d q z) = ap (l .of-task) q ∙ group-inj (ap (kindBy l) (sym d) ∙ k)
+      task-label i (inherits t r d some q z) =
+          let b = subst (Grounds st) d c in
+          ap (l .of-task) q ∙ sym (heir-label r (b .1) some) ∙ unlock-label t r b ∙ group-inj (ap (kindBy l) (sym d) ∙ k)
+      task-label i (ticks n d q z) = absurd (time-group (ap (kindBy l) (sym d) ∙ k))
 
-    resource-label : (e : Event) → Grounds st e → kindBy l e ≡ group g → (i : ℕ) → ResourceReached e i → l .of-resource i ≡ g
-    resource-label (Wake t) c k i q = absurd q
-    resource-label (Suspend t) c k i q = absurd q
-    resource-label (Dispatch s) c k i q = absurd q
-    resource-label (Preempt s) c k i q = absurd q
-    resource-label (Elapse n) c k i q = absurd q
-    resource-label (Recharge s) c k i q = absurd q
-    resource-label (Lock t r) c k i q = ap (l .of-resource) q ∙ lock-label t r c ∙ group-inj k
-    resource-label (Unlock t r) c k i q = ap (l .of-resource) q ∙ unlock-label t r c ∙ group-inj k
+      resource-label : (i : ℕ) {x : Resource} → ResourceMade st e i x → l .of-resource i ≡ g
+      resource-label i (queued t d z) = lock-label t i (subst (Grounds st) d c) ∙ group-inj (ap (kindBy l) (sym d) ∙ k)
+      resource-label i (owned-by t d z) = lock-label t i (subst (Grounds st) d c) ∙ group-inj (ap (kindBy l) (sym d) ∙ k)
+      resource-label i (given-up t d z) = unlock-label t i (subst (Grounds st) d c) ∙ group-inj (ap (kindBy l) (sym d) ∙ k)
+      resource-label i (passed-on t d some z) = unlock-label t i (subst (Grounds st) d c) ∙ group-inj (ap (kindBy l) (sym d) ∙ k)
 
     -- the change leaves the others' entries alone
     changed-left : (h : ℕ) (e : Event) → Grounds st e → kindBy l e ≡ group g → (g ≡ h → ⊥) → Agree l h st (changed st e)
@@ -158,12 +152,12 @@ module _ (l : Labels) (st : State) (good : Good l st) where
           task-same = record {
             left-long = good .shaped .tasks;
             right-long = now .tasks;
-            entry = λ i m. ⊎-elim sym (λ q. absurd (n (sym (task-label e c k i (q .0)) ∙ m))) (task-after st e i);
+            entry = λ i m. ⊎-elim sym (λ q. absurd (n (sym (task-label e c k i q) ∙ m))) (task-after st e i);
           };
           resource-same = record {
             left-long = good .shaped .resources;
             right-long = now .resources;
-            entry = λ i m. ⊎-elim sym (λ q. absurd (n (sym (resource-label e c k i (q .0)) ∙ m))) (resource-after st e i);
+            entry = λ i m. ⊎-elim sym (λ q. absurd (n (sym (resource-label e c k i q) ∙ m))) (resource-after st e i);
           };
         }
 

@@ -95,9 +95,9 @@ module _ (st : State) (i : ℕ) where
         λ p. (
           ⊎-elim (λ q. q) (λ k. holds-fails (server-here st e i g (k .0)) p) (server-after st e i),
           settled-past st (changed st e) (acting st e) (heads-here (changed st e) st (counts .1) (counts .2) i ∙ p)
-              ∙ ⊎-elim (λ q. q) (λ k. holds-fails (task-here st facts e i g (k .0)) p) (task-after st e i),
+              ∙ ⊎-elim (λ q. q) (λ k. holds-fails (task-here st facts e i g k) p) (task-after st e i),
         ),
-        λ p. ⊎-elim (λ q. q) (λ k. holds-fails (resource-here st e i g (k .0)) p) (resource-after st e i),
+        λ p. ⊎-elim (λ q. q) (λ k. holds-fails (resource-here st e i g k) p) (resource-after st e i),
       )
 
   pub past-kept : (e : Event) → Stays (stepped st e .state)
