@@ -46,10 +46,7 @@ module _ (top : ℕ) where
   filled-put p n m old new l e same f h = (
     omega arith,
     λ j k d.
-        split
-        (eqb j n)
-        (λ y. rw (eqb-true j n y) h)
-        (λ x. let b : j < n = omega (arith, eqb-false j n x) in ap p (same j b) ∙ f .1 j k b),
+        split (eqb j n) (λ y. rw (eqb-true j n y) h) (λ x. let b : j < n = omega (arith, eqb-false j n x) in ap p (same j b) ∙ f .1 j k b),
   )
 
   pub count-put
@@ -188,10 +185,7 @@ module _
                 let same : times top (size' b) (entry' b) a ≡ times top (size b) (entry b) a = rw (o .0) (count-ext (suc top) _ _ (λ j l. rw (o .1 j))) in
                 same
                 ∙ was
-                ∙ split
-                (eqb a i)
-                (λ e. rw (e, eqb-true a i e, ne-eqb (to i) b (apart b h n .0), ne-eqb goal b (apart b h n .1)))
-                (λ e. rw e))
+                ∙ split (eqb a i) (λ e. rw (e, eqb-true a i e, ne-eqb (to i) b (apart b h n .0), ne-eqb goal b (apart b h n .1))) (λ e. rw e))
 
             moved-standing : (points' i ≡ true → box goal ≡ true) → (box goal ≡ true → may goal i ≡ true) → Standing top item box size' entry' points' to' may'
             moved-standing at-goal allows = record {

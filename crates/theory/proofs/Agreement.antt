@@ -156,10 +156,7 @@ module _ (l : Labels) where
       end-same zero t e = refl
       end-same (suc left) t e =
           rw (← (next-same t e))
-          (split
-          (ltb (next s t) places)
-          (λ y. rw y (end-same left (next s t) (next-home s home t (ltb-true _ _ y) ∙ e)))
-          (λ n. rw n refl))
+          (split (ltb (next s t) places) (λ y. rw y (end-same left (next s t) (next-home s home t (ltb-true _ _ y) ∙ e))) (λ n. rw n refl))
 
       pub served-same : (t : ℕ) → l .of-task t ≡ g → served s t ≡ served u t
       unfolding served

@@ -156,8 +156,7 @@ module _ (st : State) (shaped : Shaped st) (facts : Loose st) where
   served-changed (Lock t r) g q =
       rw q
       (quiet-served st shaped c (t .0) r (g .0) (g .1) (facts .unqueued r (g .1) (λ o. true≢false (sym o ∙ q))) _ _ refl refl refl refl refl)
-  served-changed (Unlock t r) g q =
-      rw (eq-eqb _ 0 q) (quiet-served st shaped c (t .0) r (g .0) (g .1) q _ _ refl refl refl refl refl)
+  served-changed (Unlock t r) g q = rw (eq-eqb _ 0 q) (quiet-served st shaped c (t .0) r (g .0) (g .1) q _ _ refl refl refl refl refl)
 
   -- the six events of tasks and servers, a grant and a release with nobody waiting leave every chain end
   pub served-kept : (e : Event) → Grounds st e → Quiet st e → (s : ℕ) → served (stateAfter st e) s ≡ served st s

@@ -176,10 +176,7 @@ module _ (st : State) where
   each-after e f new i =
       ⊎-elim
       (λ c.
-      split
-      (here st i)
-      (λ h. subst (ServerAfter st e i) (sym (c ∙ if-yes _ _ _ h)) (new i h))
-      (λ n. inl (c ∙ if-no _ _ _ n)))
+      split (here st i) (λ h. subst (ServerAfter st e i) (sym (c ∙ if-yes _ _ _ h)) (new i h)) (λ n. inl (c ∙ if-no _ _ _ n)))
       (λ c. inl c)
       (each-cases places (serverBy st f) (st .server) noServer i)
 
@@ -188,8 +185,7 @@ module _ (st : State) where
 
   woken-after : (t : TaskNo) (s : ℕ) → here st s ≡ true → ServerAfter st (Wake t) s (wokenServer st (t .0) s)
   unfolding wokenServer
-  woken-after t s h =
-      split (wakes st (t .0) s) (λ y. inr ((h, wakes-serves st (t .0) s y), refills Active (rw y) refl)) (λ n. inl (rw n))
+  woken-after t s h = split (wakes st (t .0) s) (λ y. inr ((h, wakes-serves st (t .0) s y), refills Active (rw y) refl)) (λ n. inl (rw n))
 
   rested-after : (t : TaskNo) (r i : ℕ) → owned (resourceAt st r .owner) ≡ true → ServerAfter st (Lock t r) i (serverAt (restedEnd (joined st (t .0) r) (t .0)) i)
   unfolding restedEnd joined here

@@ -94,10 +94,7 @@ module _ (l : Labels) (st : State) (good : Good l st) where
   unrested-home : (u : State) (t : ℕ) → Homed l (restedEnd u t) → Homed l u
   unfolding restedEnd rested eachServer here present
   unrested-home u t h =
-      split
-      (suspended (taskAt u (served u t) .mode))
-      (λ y. let k = rw y at h in record { waits = k .waits; owns = k .owns })
-      (λ n. rw n at h)
+      split (suspended (taskAt u (served u t) .mode)) (λ y. let k = rw y at h in record { waits = k .waits; owns = k .owns }) (λ n. rw n at h)
 
   joined-home : (t : TaskNo) (r : ℕ) → Grounds st (Lock t r) → owned (resourceAt st r .owner) ≡ true → Homed l (joined st (t .0) r)
   unfolding locked
@@ -213,8 +210,7 @@ module _ (l : Labels) (g : ℕ) (s u : State) (a : Agree l g s u) where
 
       woken-servers : SameAt (l .of-task) g places noServer (woken s t .server) (woken u t .server)
       unfolding woken eachServer wokenServer
-      woken-servers =
-          each-server (wokenServer s t) (wokenServer u t) (λ i k. rw (wakes-same i, a .clock-same, a .server-same .entry i k) refl)
+      woken-servers = each-server (wokenServer s t) (wokenServer u t) (λ i k. rw (wakes-same i, a .clock-same, a .server-same .entry i k) refl)
 
     -- a lock's new chain end is the group's, and its servers rest
     restedEnd-same : (t : ℕ) → l .of-task t ≡ g → Agree l g (restedEnd s t) (restedEnd u t)
@@ -369,10 +365,7 @@ module _ (st : State) (ok : Loose st) where
       rw f (runs-again (taskAt st t .runs) y (serving-below st t _ f)))
       (λ n.
       rw (unserved t n (placeNo (taskAt st t .runs)), unserved t n a, runs-nowhere (taskAt st t .runs) n)
-      (split
-      (ltb (chosen st t) places)
-      (λ y. holds-fails (chosen-serves st t (ltb-true _ _ y)) (unserved t n (chosen st t)))
-      (λ x. rw x refl)))
+      (split (ltb (chosen st t) places) (λ y. holds-fails (chosen-serves st t (ltb-true _ _ y)) (unserved t n (chosen st t))) (λ x. rw x refl)))
 
   settled-entry : (a t : ℕ) → settledTask st a st t ≡ taskAt st t
   unfolding settledTask

@@ -28,8 +28,7 @@ module _ (st : State) (e : Event) where
   unfolding spentServer
   ran s (in-phase p q d) h = inr (d (ap (λ z. running (z .phase)) (sym q) ∙ h))
   ran s (refills p q n) h = holds-fails (ap (λ z. running (z .phase)) (sym q) ∙ h) n
-  ran s (spends n q d) h =
-      inl (still-running (runsOut st n s) Recharging (serverAt st s .phase) refl (ap (λ z. running (z .phase)) (sym q) ∙ h))
+  ran s (spends n q d) h = inl (still-running (runsOut st n s) Recharging (serverAt st s .phase) refl (ap (λ z. running (z .phase)) (sym q) ∙ h))
 
   ran-by : (s : ℕ) → runningAt (changed st e) s ≡ true → (runningAt st s ≡ true) ⊎ (e ≡ Dispatch (record { 0 = s }))
   unfolding runningAt

@@ -167,8 +167,7 @@ module _ (st : State) (facts : Loose st) where
 
   pub executes-for : (t s : ℕ) → executesIn st t s ≡ true → runningFor st t s ≡ true
   unfolding executes runningFor
-  executes-for t s h =
-      and-both (runningAt st s) _ (and-left (runningAt st s) _ (and-left (executes st s) _ h)) (and-right (executes st s) _ h)
+  executes-for t s h = and-both (runningAt st s) _ (and-left (runningAt st s) _ (and-left (executes st s) _ h)) (and-right (executes st s) _ h)
 
   executor-executes : (t : ℕ) → executing st t ≡ true → executesIn st t (executorOf st t) ≡ true
   unfolding executes runningFor

@@ -124,8 +124,7 @@ by-actor
     : (s u : State) (t : ℕ) (xs ys : List (ℕ × Bool)) → here s t ≡ here u t
     → (here s t ≡ true → firstOf ((2, not (here s t)) ∷ xs) ≡ firstOf ((2, not (here u t)) ∷ ys))
     → firstOf ((2, not (here s t)) ∷ xs) ≡ firstOf ((2, not (here u t)) ∷ ys)
-by-actor s u t xs ys same f =
-    split (here s t) f (λ n. first-yes 2 _ xs (ap not n) ∙ sym (first-yes 2 _ ys (ap not (sym same ∙ n))))
+by-actor s u t xs ys same f = split (here s t) f (λ n. first-yes 2 _ xs (ap not n) ∙ sym (first-yes 2 _ ys (ap not (sym same ∙ n))))
 
 module _ (l : Labels) (s u : State) (c : Covers l s) (a : Agree l 0 s u) (shaped : Shaped s) (other : Shaped u) (y : sound s ≡ true) where
   good : Good l s
@@ -153,10 +152,7 @@ module _ (l : Labels) (s u : State) (c : Covers l s) (a : Agree l 0 s u) (shaped
   out-both : (n i : ℕ) → runsOut s n i ≡ runsOut u n i
   unfolding runsOut runningAt
   out-both n i =
-      split
-      (here s i)
-      (λ h. rw (← (here-same l 0 s u a i), h, a .server-same .entry i (c .task i h)))
-      (λ n. rw (← (here-same l 0 s u a i), n))
+      split (here s i) (λ h. rw (← (here-same l 0 s u a i), h, a .server-same .entry i (c .task i h))) (λ n. rw (← (here-same l 0 s u a i), n))
 
   -- one verdict,
   firsts : (e : Event) → firstOf (tests s e) ≡ firstOf (tests u e)
