@@ -1,7 +1,7 @@
 -- From a test on a phase, a mode or an owner to the variant that passes it. Assumes nothing.
 use mathlib.Core.Path.{_≡_, refl}
 use mathlib.Core.Bool.{true, false}
-use Prim.Native.Nat.{ℕ, _<_}
+use Prim.Native.Nat.{_<_}
 use native.Mathlib.Omega.{arith}
 use Rattle.laws.proofs.Cases.{holds-fails}
 use Rattle.model.specs.declared.Phase.{Phase}

@@ -14,8 +14,8 @@ use Rattle.model.specs.Shape.{Shaped}
 use Rattle.model.proofs.Chain.{same-served, Open, here-below, served-below}
 use Rattle.model.proofs.Sound.{Each, EachResource, Declaration, Unqueued, Executor, Serves, Loose}
 use Rattle.model.proofs.Room.{Stacks, Queues, loose-stacks, loose-queues}
-use Rattle.model.proofs.RuleH.{settled-here, settled-served, settled-serves, settled-some}
-use Rattle.theory.proofs.Frames.{heads-here, heads-present, settled-task, settled-field}
+use Rattle.model.proofs.RuleH.{settled-here, settled-served, settled-serves, settled-some, settled-task, settled-field}
+use Rattle.theory.proofs.Frames.{heads-here, heads-present}
 
 pub record Locks (st : State) : Type 0 where
   pub declaration : Each st (Declaration st)

@@ -2,17 +2,18 @@
 -- was, or it is one of a few rewritings of itself (`ServerMade`, `TaskMade`, `ResourceMade`) that say by which event and why: that is `server-after`,
 -- `task-after`, `resource-after`. What no rewriting touches no event touches: fields (`servers-left`, `tasks-left`), the counts
 -- (`heads-kept`), the arrays' sixteen places (`changed-shaped`). What no event reaches stays: entries past the counts (`past-kept`), and in
--- Locality.antt the entries of other groups. Rule H writes one field of tasks (`settled-task`). Assumes nothing.
+-- Locality.antt the entries of other groups. Assumes nothing.
 use Rattle.theory.proofs.Kit.{_≡_, refl, sym, ap, subst, _∙_, true, false, _||_, _&&_, _⊎_, inl, inr, ⊎-elim, ℕ, _<_, arith, eqb, length, getD, set, length-set, eqb-true, eqb-false}
 use Rattle.laws.proofs.Cases.{split, holds-fails, if-yes, if-no, and-right}
 use Rattle.laws.proofs.Lists.{store-cases}
-use Rattle.laws.proofs.Set.{length-setTo, each-cases, setTo-keeps}
+use Rattle.laws.proofs.Set.{length-setTo, each-cases}
 use Rattle.theory.proofs.Declared.{TaskNo, Phase, Idle, Active, Running, Mode, Suspended, Ready, Waiting, Runs, Nobody, By, Server, Task, Resource, State, Event, Wake, Suspend, Dispatch, Preempt, Elapse, Recharge, Lock, Unlock}
 use Rattle.model.specs.State.{places, noServer, noTask, noResource, serverAt, taskAt, resourceAt, inUse, here, present, idle, active, running, suspended, owned, served}
 use Rattle.model.specs.Shape.{Shaped}
-use Rattle.model.specs.RuleH.{withRuns, settledTask, settled}
+use Rattle.model.specs.RuleH.{withRuns, settled}
 use Rattle.model.specs.Events.{withServer, withTask, withPhase, refilled, withMode, serverBy, eachServer, wakes, wokenServer, woken, rests, restedServer, rested, slept, phased, spentServer, tickedTask, taskBy, elapsed, rechargedPhase, recharged, pushed, popped, withOwner, enqueued, dequeued, firstWaiter, granted, joined, restedEnd, locked, freed, passed, unlocked, changed, acting}
 use Rattle.model.specs.Step.{stateAfter}
+use Rattle.model.proofs.RuleH.{settled-field}
 use Rattle.model.proofs.Boxes.{dequeued-long}
 use Rattle.model.proofs.Grounds.{Grounds}
 use Rattle.model.proofs.Room.{first-here}
@@ -26,20 +27,6 @@ module _ (a b : State) (tasks : a .tasks ≡ b .tasks) (resources : a .resources
   pub heads-present : (r : ℕ) → present a r ≡ present b r
   unfolding present
   heads-present r = ap (λ n. inUse n r) resources
-
--- rule H leaves every field of a task but one
-pub settled-task
-    : (R : Task → Task → Type 0) → ((k : Task) → R k k) → ((x : Runs) (k : Task) → R (withRuns x k) k) → (old st : State) (acting t : ℕ)
-    → R (taskAt (settled old acting st) t) (taskAt st t)
-unfolding settled settledTask
-settled-task R self blind old st acting t =
-    setTo-keeps R noTask self places _ (st .task) t
-    (λ j. split (here st j) (λ h. rw h (blind _ (taskAt st j))) (λ n. rw n (self (taskAt st j))))
-
-pub settled-field
-    : {A : Type 0} (f : Task → A) → ((x : Runs) (k : Task) → f (withRuns x k) ≡ f k) → (old st : State) (acting t : ℕ)
-    → f (taskAt (settled old acting st) t) ≡ f (taskAt st t)
-settled-field f = settled-task (λ k l. f k ≡ f l) (λ k. refl)
 
 -- the counts: nobody writes them
 abbrev pub Heads : State → State → Type 0

@@ -2,7 +2,7 @@
 -- touch them: a resource taken or given up, a task that enters a queue or leaves it as its first. A stack and a queue are one thing, items that stand
 -- once in the box that they point to, so each move is one of two laws (laws/proofs/Standing.antt, with model/proofs/Boxes.antt for the one box that
 -- changes). Assumes nothing.
-use Rattle.theory.proofs.Kit.{_≡_, refl, sym, ap, _∙_, true, false, ℕ, _+_, _<_, _≤_, arith, eqb, length, getD, length-set, getD-set-same, getD-set-other, eqb-true, eqb-false}
+use Rattle.theory.proofs.Kit.{_≡_, refl, sym, ap, _∙_, true, false, ℕ, _+_, _<_, arith, eqb, length, getD, length-set, getD-set-same, getD-set-other, eqb-true, eqb-false}
 use Rattle.laws.specs.Tests.{if_then_else_, bit}
 use Rattle.laws.proofs.Cases.{split}
 use Rattle.laws.proofs.Lists.{set-keeps}
