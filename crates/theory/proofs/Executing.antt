@@ -1,7 +1,7 @@
 -- Who executes. Of a loose state: a task that executes is ready and waits for nobody (`runs-ready`, `runs-ended`). After every accepted event: rule H's
 -- three steps, and no choice left (`rule-h`), from the laws of rule H on the state after the change, which is shaped. And where nobody comes to wait
 -- or stops waiting every server serves the task that it served (`served-kept`): the six events of tasks and servers make states that are alike to
--- chains, a grant and a release with nobody waiting change no link. Leans on Frames, Alike, Serving and Granting. Assumes nothing.
+-- chains, a grant and a release with nobody waiting change no link. Leans on Frames, Calm, Serving and Locking. Assumes nothing.
 use Rattle.theory.proofs.Kit.{_≡_, refl, sym, ap, _∙_, true, false, true≢false, ⊎-elim, _⊎_, inl, inr, none, some, ℕ, _≤_, _<_, arith, ltb, length, eq-eqb, ltb-true, ltb-false}
 use Rattle.laws.specs.Tests.{firstOf}
 use Rattle.laws.proofs.Cases.{split, holds-fails, unheld-fails, and-left, and-right}

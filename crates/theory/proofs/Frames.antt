@@ -1,8 +1,8 @@
 -- Frames: what an event can make of one server, of one task and of one resource, whatever the state. Each entry after the event's change stays as it
 -- was, or it is one of a few rewritings of itself (`ServerMade`, `TaskMade`, `ResourceMade`) that say by which event and why: that is `server-after`,
 -- `task-after`, `resource-after`. What no rewriting touches no event touches: fields (`servers-left`, `tasks-left`), the counts
--- (`heads-kept`), the arrays' sixteen places (`changed-shaped`). What no event reaches stays: entries past the counts (`past-kept`), and in
--- Locality.antt the entries of other groups. Assumes nothing.
+-- (`heads-kept`), the clock but for an elapse, the arrays' sixteen places (`changed-shaped`). What no event reaches stays: entries past the counts
+-- (`past-kept` in Outcomes.antt), and the entries of other groups (Locality.antt). Assumes nothing.
 use Rattle.theory.proofs.Kit.{_≡_, refl, sym, ap, subst, _∙_, true, false, _||_, _&&_, _⊎_, inl, inr, ⊎-elim, ℕ, _<_, arith, eqb, length, getD, set, length-set, eqb-true, eqb-false}
 use Rattle.laws.proofs.Cases.{split, holds-fails, if-yes, if-no, and-right}
 use Rattle.laws.proofs.Lists.{store-cases}

@@ -1,4 +1,4 @@
--- Soundness is kept, and what it says over all runs. An accepted event's change is calm (the laws of Serving, Granting, Waiting and Passing, put
+-- Soundness is kept, and what it says over all runs. An accepted event's change is calm (the laws of Serving, Locking and Passing, put
 -- together by the grounds that its tests leave), rule H makes a calm state loose, and processors are counted by themselves (Processors.antt). So
 -- `free` keeps a state loose and shaped (`free-kept`), a step keeps it sound (`kept`), and every state that a list of events reaches from a fresh
 -- table is sound (`sound-always`). From that: refusal 1 never comes, a task executes in one server and does where a Running server serves it, a

@@ -1,5 +1,7 @@
 -- What lies past the counts is not read: two states that agree on what is in use are sound together, get one answer to an event and agree after it.
--- What is in use is a group, for any labels that give it the number 0; so most of it is what the theorems on order say of a group. Assumes nothing.
+-- What is in use is a group, for any labels that give it the number 0: all that soundness asks, each test, the change, rule H and the answer read that
+-- group alone, and most of this is what Locality.antt and Order.antt say of a group. Only the tests and the answer that speak of all servers
+-- (no processor free, an elapse) are compared here. Assumes nothing.
 use Rattle.theory.proofs.Kit.{_≡_, refl, sym, ap, ap₂, _∙_, Bool, true, false, not, _||_, List, _∷_, Option, none, some, ℕ, _+_, arith, ltb, eqb, eq-eqb}
 use Rattle.laws.specs.Tests.{if_then_else_, _when_or_, accepted, firstOf, without}
 use Rattle.laws.proofs.Cases.{split, holds-fails, unheld-fails, if-yes, first-yes}
