@@ -108,8 +108,7 @@ same-standing {top} p q s e o t m old =
 
 module _
     {top : ℕ} {item box points : ℕ → Bool} {size to : ℕ → ℕ} {entry : ℕ → ℕ → ℕ} {may : ℕ → ℕ → Bool}
-    (old : Standing top item box size entry points to may)
-    (below : (b : ℕ) → box b ≡ true → b < suc top)
+    (old : Standing top item box size entry points to may) (below : (b : ℕ) → box b ≡ true → b < suc top)
   where
     -- what stands in a box points to it, and a box that is pointed to is not empty
     pub stands-points : (b j : ℕ) → box b ≡ true → j < size b → to (entry b j) ≡ b
@@ -153,16 +152,12 @@ module _
         (points' : ℕ → Bool) (size' to' : ℕ → ℕ) (entry' : ℕ → ℕ → ℕ) (may' : ℕ → ℕ → Bool) (i c : ℕ)
         (fills : Filled top item (size' c) (entry' c))
         (others : (b : ℕ) → (b ≡ c → ⊥) → (size' b ≡ size b) × ((j : ℕ) → entry' b j ≡ entry b j))
-        (points-is : (a : ℕ) → (a ≡ i → ⊥) → points' a ≡ points a)
-        (may-is : (b a : ℕ) → may' b a ≡ may b a)
+        (points-is : (a : ℕ) → (a ≡ i → ⊥) → points' a ≡ points a) (may-is : (b a : ℕ) → may' b a ≡ may b a)
       where
         module _
-            (goal : ℕ)
-            (more less : ℕ → ℕ)
-            (to-is : (a : ℕ) → to' a ≡ (if eqb a i then goal else to a))
+            (goal : ℕ) (more less : ℕ → ℕ) (to-is : (a : ℕ) → to' a ≡ (if eqb a i then goal else to a))
             (count : (a : ℕ) → times top (size' c) (entry' c) a + less a ≡ times top (size c) (entry c) a + more a)
-            (quiet : (a : ℕ) → (a ≡ i → ⊥) → (more a ≡ 0) × (less a ≡ 0))
-            (swap : bit (eqb (to i) c) + more i ≡ bit (eqb goal c) + less i)
+            (quiet : (a : ℕ) → (a ≡ i → ⊥) → (more a ≡ 0) × (less a ≡ 0)) (swap : bit (eqb (to i) c) + more i ≡ bit (eqb goal c) + less i)
             (apart : (b : ℕ) → box b ≡ true → (b ≡ c → ⊥) → (to i ≡ b → ⊥) × (goal ≡ b → ⊥))
           where
             agrees : (b a : ℕ) → box b ≡ true → item a ≡ true → times top (size' b) (entry' b) a ≡ bit (eqb (if eqb a i then goal else to a) b)

@@ -284,14 +284,9 @@ module _ (st : State) where
 
 -- what no rewriting touches: a field of servers that sees neither phase nor budget and deadline,
 module _
-    {A : Type 0}
-    (f : Server → A)
-    (phase : (p : Phase) (x : Server) → f (withPhase p x) ≡ f x)
-    (refill : (p : Phase) (clock : ℕ) (x : Server) → f (refilled p clock x) ≡ f x)
-    (st : State)
-    (e : Event)
-    (spent : (n s : ℕ) → e ≡ Elapse n → f (spentServer st n s) ≡ f (serverAt st s))
-    (i : ℕ)
+    {A : Type 0} (f : Server → A) (phase : (p : Phase) (x : Server) → f (withPhase p x) ≡ f x)
+    (refill : (p : Phase) (clock : ℕ) (x : Server) → f (refilled p clock x) ≡ f x) (st : State) (e : Event)
+    (spent : (n s : ℕ) → e ≡ Elapse n → f (spentServer st n s) ≡ f (serverAt st s)) (i : ℕ)
   where
     server-left : {x : Server} → ServerMade st e i x → f x ≡ f (serverAt st i)
     server-left (in-phase p q d) = ap f q ∙ phase p (serverAt st i)
@@ -304,10 +299,7 @@ module _
 
 -- a field of tasks that sees neither mode nor stack (nor where it executes),
 module _
-    {A : Type 0}
-    (f : Task → A)
-    (mode : (m : Mode) (k : Task) → f (withMode m k) ≡ f k)
-    (push : (r : ℕ) (k : Task) → f (pushed r k) ≡ f k)
+    {A : Type 0} (f : Task → A) (mode : (m : Mode) (k : Task) → f (withMode m k) ≡ f k) (push : (r : ℕ) (k : Task) → f (pushed r k) ≡ f k)
     (pop : (k : Task) → f (popped k) ≡ f k)
   where
     module _ (st : State) (e : Event) (ticked : (n t : ℕ) → e ≡ Elapse n → f (tickedTask st n t) ≡ f (taskAt st t)) (i : ℕ) where
