@@ -25,6 +25,15 @@ at-in n entry v j l = rw (lt-ltb j n l)
 at-out : (n : ℕ) (entry : ℕ → ℕ) (v j : ℕ) → n ≤ j → at n entry v j ≡ false
 at-out n entry v j l = rw (le-ltb j n l)
 
+-- places that are in use together and have the same
+at-both
+    : (n m : ℕ) (old new : ℕ → ℕ) (v j k : ℕ) → (j < n → (k < m) × (new k ≡ old j)) → (n ≤ j → m ≤ k) → at m new v k ≡ at n old v j
+at-both n m old new v j k within past =
+    split
+    (ltb j n)
+    (λ y. let z = within (ltb-true j n y) in at-in m new v k (z .0) ∙ ap (λ a. eqb a v) (z .1) ∙ sym (at-in n old v j (ltb-true j n y)))
+    (λ f. let z = ltb-false j n f in at-out m new v k (past z) ∙ sym (at-out n old v j z))
+
 count-first : (n : ℕ) (p : ℕ → Bool) → countTo (suc n) p ≡ bit (p 0) + countTo n (λ j. p (suc j))
 unfolding countTo
 count-first zero p = omega arith
@@ -54,16 +63,7 @@ module _ (top : ℕ) where
       → times m new v ≡ times n old v + bit (eqb (new n) v)
   count-put n m old new v l e same =
       let k = count-but-one (suc top) n (at m new v) (at n old v) l
-      (λ j h x.
-      split
-      (ltb j n)
-      (λ y.
-      let z : j < n = ltb-true j n y in
-      at-in m new v j (omega arith) ∙ ap (λ a. eqb a v) (same j z) ∙ sym (at-in n old v j z))
-      (λ f.
-      let z : n ≤ j = ltb-false j n f in
-      let w : m ≤ j = omega (arith, x) in
-      at-out m new v j w ∙ sym (at-out n old v j z))) in
+      (λ j h x. at-both n m old new v j j (λ y. (omega arith, same j y)) (λ y. omega (arith, x))) in
       omega (arith, k, ap bit (at-in m new v n (omega arith)), ap bit (at-out n old v n (omega arith)))
 
   -- the first is given up
@@ -75,16 +75,7 @@ module _ (top : ℕ) where
       let whole : times m old v ≡ bit (at m old v 0) + countTo top (λ j. at m old v (suc j)) = count-first top (at m old v) in
       let last : times n new v ≡ countTo top (at n new v) + bit (at n new v top) = refl in
       let rest : countTo top (λ j. at m old v (suc j)) ≡ countTo top (at n new v) =
-      count-ext top _ _
-      (λ j h.
-      split
-      (ltb j n)
-      (λ y.
-      let z : j < n = ltb-true j n y in
-      at-in m old v (suc j) (omega arith) ∙ ap (λ a. eqb a v) (sym (same j z)) ∙ sym (at-in n new v j z))
-      (λ f.
-      let z : n ≤ j = ltb-false j n f in
-      at-out m old v (suc j) (omega arith) ∙ sym (at-out n new v j z))) in
+      count-ext top _ _ (λ j h. at-both n m new old v j (suc j) (λ y. (omega arith, sym (same j y))) (λ y. omega arith)) in
       omega (arith, whole, last, rest, ap bit (at-in m old v 0 (omega arith)), ap bit (at-out n new v top (omega arith)))
 
 -- items and boxes in use, each box's size and entries, whether an item points and to which box, and whether it may stand there
@@ -149,7 +140,7 @@ module _
 
     -- Item i comes to point to `goal`, and only box c changes: it gains `more` of each item and loses `less`.
     module _
-        (points' : ℕ → Bool) (size' to' : ℕ → ℕ) (entry' : ℕ → ℕ → ℕ) (may' : ℕ → ℕ → Bool) (i c : ℕ)
+        {points' : ℕ → Bool} {size' to' : ℕ → ℕ} {entry' : ℕ → ℕ → ℕ} {may' : ℕ → ℕ → Bool} (i c : ℕ)
         (fills : Filled top item (size' c) (entry' c))
         (others : (b : ℕ) → (b ≡ c → ⊥) → (size' b ≡ size b) × ((j : ℕ) → entry' b j ≡ entry b j))
         (points-is : (a : ℕ) → (a ≡ i → ⊥) → points' a ≡ points a) (may-is : (b a : ℕ) → may' b a ≡ may b a)

@@ -1,21 +1,21 @@
--- A change of one task and one resource (`touched`): what is read after it, that stacks and queues which it cannot touch stay, and the four moves that do
--- touch them: a resource taken or given up, a task that enters a queue or leaves it as its first. A stack and a queue are one thing, items that stand
+-- A change of one task and one resource (`touched`): what is read after it, that stacks and queues which it cannot touch stay, and the moves that do
+-- touch them: a resource taken or given up, a task that enters a queue (that the first leaves it is in Passing.antt). A stack and a queue are one thing, items that stand
 -- once in the box that they point to, so each move is one of two laws (laws/proofs/Standing.antt, with model/proofs/Boxes.antt for the one box that
 -- changes). Assumes nothing.
-use Rattle.theory.proofs.Kit.{_≡_, refl, sym, ap, _∙_, true, false, ℕ, _+_, _<_, arith, eqb, length, getD, length-set, getD-set-same, getD-set-other, eqb-true, eqb-false}
+use Rattle.theory.proofs.Kit.{_≡_, refl, sym, ap, _∙_, true, false, ℕ, _+_, _<_, arith, eqb, getD, getD-set-same, getD-set-other, eqb-true, eqb-false}
 use Rattle.laws.specs.Tests.{if_then_else_, bit}
 use Rattle.laws.proofs.Cases.{split}
 use Rattle.laws.proofs.Lists.{set-keeps}
 use Rattle.laws.proofs.Standing.{same-standing, put-standing, taken-standing}
-use Rattle.theory.proofs.Declared.{TaskNo, Ready, Waiting, Nobody, By, Task, Resource, State}
+use Rattle.theory.proofs.Declared.{TaskNo, Waiting, Nobody, By, Task, Resource, State}
 use Rattle.model.specs.State.{places, nobody, noTask, noResource, taskAt, resourceAt, inSet, here, present, declares, waiting, awaited, owned, ownerNo}
 use Rattle.model.specs.Shape.{Shaped}
-use Rattle.model.specs.Events.{withTask, withResource, withMode, withOwner, pushed, popped, enqueued, dequeued, firstWaiter, granted, freed, joined}
+use Rattle.model.specs.Events.{withTask, withResource, withMode, withOwner, pushed, popped, enqueued, granted, freed, joined}
 use Rattle.model.specs.Step.{topOf}
 use Rattle.model.proofs.Chain.{here-below, present-below}
 use Rattle.model.proofs.Sound.{Each, Declaration}
 use Rattle.model.proofs.Room.{Stacks, Queues}
-use Rattle.model.proofs.Boxes.{heldIn, queuedIn, holds, lines, push-holds, push-filled, pop-holds, pop-filled, enter-lines, enter-filled, leave-lines, leave-filled}
+use Rattle.model.proofs.Boxes.{heldIn, queuedIn, holds, push-holds, push-filled, pop-holds, pop-filled, enter-lines, enter-filled}
 use Rattle.model.proofs.Variants.{unowned-no}
 
 abbrev pub touched : State → ℕ → ℕ → Task → Resource → State
@@ -52,17 +52,8 @@ module _ (st : State) (shaped : Shaped st) (t r : ℕ) (used : here st t ≡ tru
     pub resource-field : {A : Type 0} (f : Resource → A) → f x ≡ f (resourceAt st r) → (q : ℕ) → f (resourceAt after q) ≡ f (resourceAt st q)
     resource-field f e q = set-keeps (λ a b. f a ≡ f b) noResource (λ a. refl) (st .resource) r q x e
 
-    pub touched-shaped : length (k .held) ≡ places → length (x .queue) ≡ places → Shaped after
-    touched-shaped a b = record {
-      servers = shaped .servers;
-      tasks = length-set (st .task) t k ∙ shaped .tasks;
-      resources = length-set (st .resource) r x ∙ shaped .resources;
-      stacks = λ y l. task-field (λ z. length (z .held)) (a ∙ sym (shaped .stacks t (here-below st t used))) y ∙ shaped .stacks y l;
-      queues = λ q l. resource-field (λ z. length (z .queue)) (b ∙ sym (shaped .queues r (present-below st r known))) q ∙ shaped .queues q l;
-    }
-
     module _ (may : k .declared ≡ taskAt st t .declared) where
-      touched-declares : (y q : ℕ) → declares after y q ≡ declares st y q
+      pub touched-declares : (y q : ℕ) → declares after y q ≡ declares st y q
       unfolding declares
       touched-declares y q = ap (λ d. inSet d q) (task-field (λ z. z .declared) may y)
 
@@ -106,8 +97,6 @@ module _ (st : State) (shaped : Shaped st) (t r : ℕ) (used : here st t ≡ tru
         let by = withOwner (By (record { 0 = t })) x in
         let long = shaped .stacks t (here-below st t used) in
         put-standing l (here-below st)
-        (λ q. owned (resourceAt (touched st t r new by) q .owner)) (λ y. taskAt (touched st t r new by) y .depth)
-        (λ q. ownerNo (resourceAt (touched st t r new by) q .owner)) (λ y. heldIn (taskAt (touched st t r new by) y)) (declares (touched st t r new by))
         r t
         (rw (task-self new by) (push-filled k long r room (present st) (l .filled t used) known))
         (λ y n. (ap (λ z. z .depth) (task-other new by y n), λ j. ap (λ z. heldIn z j) (task-other new by y n)))
@@ -125,8 +114,6 @@ module _ (st : State) (shaped : Shaped st) (t r : ℕ) (used : here st t ≡ tru
         let by = withOwner Nobody x in
         let fits = l .filled t used .0 in
         taken-standing l (here-below st)
-        (λ q. owned (resourceAt (touched st t r new by) q .owner)) (λ y. taskAt (touched st t r new by) y .depth)
-        (λ q. ownerNo (resourceAt (touched st t r new by) q .owner)) (λ y. heldIn (taskAt (touched st t r new by) y)) (declares (touched st t r new by))
         r t
         (rw (task-self new by) (pop-filled k some fits (present st) (l .filled t used)))
         (λ y n. (ap (λ z. z .depth) (task-other new by y n), λ j. ap (λ z. heldIn z j) (task-other new by y n)))
@@ -146,8 +133,6 @@ module _ (st : State) (shaped : Shaped st) (t r : ℕ) (used : here st t ≡ tru
         let by = enqueued t x in
         let wide = shaped .queues r (present-below st r known) in
         put-standing l (present-below st)
-        (λ y. waiting (taskAt (touched st t r new by) y .mode)) (λ q. resourceAt (touched st t r new by) q .waiting)
-        (λ y. awaited (taskAt (touched st t r new by) y .mode)) (λ q. queuedIn (resourceAt (touched st t r new by) q)) (λ q y. declares (touched st t r new by) y q)
         t r
         (rw (resource-self new by) (enter-filled x wide t room (here st) (l .filled r known) used))
         (λ q n. (ap (λ z. z .waiting) (resource-other new by q n), λ j. ap (λ z. queuedIn z j) (resource-other new by q n)))
@@ -156,24 +141,3 @@ module _ (st : State) (shaped : Shaped st) (t r : ℕ) (used : here st t ≡ tru
         known (touched-shows new by (λ z. awaited (z .mode)))
         calm may
         (λ y. rw (resource-self new by) (enter-lines x wide t room y))
-
-    -- t, the first of it, leaves, ready
-    pub leave-queues
-        : firstWaiter x ≡ t → awaited (k .mode) ≡ r → 0 < x .waiting → Queues (touched st t r (withMode Ready k) (dequeued x))
-    unfolding here present
-    leave-queues first waits some =
-        let new = withMode Ready k in
-        let by = dequeued x in
-        let wide = shaped .queues r (present-below st r known) in
-        let fits = l .filled r known .0 in
-        taken-standing l (present-below st)
-        (λ y. waiting (taskAt (touched st t r new by) y .mode)) (λ q. resourceAt (touched st t r new by) q .waiting)
-        (λ y. awaited (taskAt (touched st t r new by) y .mode)) (λ q. queuedIn (resourceAt (touched st t r new by) q)) (λ q y. declares (touched st t r new by) y q)
-        t r
-        (rw (resource-self new by) (leave-filled x wide some fits (here st) (l .filled r known)))
-        (λ q n. (ap (λ z. z .waiting) (resource-other new by q n), λ j. ap (λ z. queuedIn z j) (resource-other new by q n)))
-        (λ y n. ap (λ z. waiting (z .mode)) (task-other new by y n))
-        (λ q y. touched-declares new by refl y q)
-        known (touched-shows new by (λ z. awaited (z .mode)))
-        waits (ap (λ z. waiting (z .mode)) (task-self new by))
-        (λ y. rw (resource-self new by) (leave-lines x wide some fits y ∙ ap (λ z. lines by y + bit (eqb z y)) first))
