@@ -107,7 +107,8 @@ module _ (st : State) (e : Event) (shaped : Shaped st) (facts : Loose st) (g : G
       (ltb (serverAt now u .budget) (serverAt now (chosen now t) .budget))
       (λ y. inl (ltb-true _ _ y))
       (λ n.
-      let same : serverAt now u .budget ≡ serverAt now (chosen now t) .budget = omega (arith, ltb-false (serverAt now u .budget) (serverAt now (chosen now t) .budget) n) in
+      let least = ltb-false (serverAt now u .budget) (serverAt now (chosen now t) .budget) n in
+      let same : serverAt now u .budget ≡ serverAt now (chosen now t) .budget = omega arith in
       inr (same, split (ltb u (chosen now t)) (λ z. absurd (omega (arith, b .first u (ltb-true _ _ z) k))) (λ z. ltb-false _ _ z))))
       (chosen-best now t))
 

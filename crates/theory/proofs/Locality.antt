@@ -69,7 +69,9 @@ module _ (l : Labels) (st : State) (good : Good l st) where
     task-home i (inherits t r d some k q) h = rw q (λ p. absurd (true≢false (sym p)))
     task-home i (ticks n d k q) h = rw q (home .waits i h)
 
-    resource-home : (r : ℕ) {x : Resource} → ResourceMade st e r x → present st r ≡ true → here st (ownerNo (x .owner)) ≡ true → l .of-resource r ≡ l .of-task (ownerNo (x .owner))
+    resource-home
+        : (r : ℕ) {x : Resource} → ResourceMade st e r x → present st r ≡ true → here st (ownerNo (x .owner)) ≡ true
+        → l .of-resource r ≡ l .of-task (ownerNo (x .owner))
     unfolding here
     resource-home r (queued t d q) p = rw q (home .owns r p)
     resource-home r (owned-by t d q) p = rw q (λ h. lock-label t r (subst (Grounds st) d g))
@@ -278,7 +280,8 @@ module _ (l : Labels) (g : ℕ) (s u : State) (a : Agree l g s u) (good : Good l
       (owned (resourceAt s r .owner))
       (λ y.
       rw (y, sym q ∙ y)
-      (restedEnd-same l g (joined s (t .0) r) (joined u (t .0) r) (joined-same l g s u a (t .0) r) (joined-home l s good t r c y) (joined-home l u fine t r d (sym q ∙ y)) (t .0) e))
+      (restedEnd-same l g (joined s (t .0) r) (joined u (t .0) r) (joined-same l g s u a (t .0) r)
+      (joined-home l s good t r c y) (joined-home l u fine t r d (sym q ∙ y)) (t .0) e))
       (λ n. rw (n, sym q ∙ n) (granted-same l g s u a (t .0) r))
 
   unlocked-same : (t : TaskNo) (r : ℕ) → Grounds s (Unlock t r) → l .of-task (t .0) ≡ g → Agree l g (unlocked s (t .0) r) (unlocked u (t .0) r)
@@ -294,9 +297,11 @@ module _ (l : Labels) (g : ℕ) (s u : State) (a : Agree l g s u) (good : Good l
   changed-same : (e : Event) → sees g (kindBy l e) ≡ true → Grounds s e → Grounds u e → Agree l g (changed s e) (changed u e)
   unfolding woken slept rested eachServer phased elapsed
   changed-same (Wake t) k c d =
-      agree-by l g s u a (a .clock-same) (woken-servers l g s u a own other (t .0) (eqb-true _ g k)) (stored-both (a .task-same) (t .0) (withMode Ready)) (a .resource-same)
+      agree-by l g s u a (a .clock-same) (woken-servers l g s u a own other (t .0) (eqb-true _ g k))
+      (stored-both (a .task-same) (t .0) (withMode Ready)) (a .resource-same)
   changed-same (Suspend t) k c d =
-      agree-by l g s u a (a .clock-same) (rested-servers l g s u a own other (t .0) (eqb-true _ g k)) (stored-both (a .task-same) (t .0) (withMode Suspended)) (a .resource-same)
+      agree-by l g s u a (a .clock-same) (rested-servers l g s u a own other (t .0) (eqb-true _ g k))
+      (stored-both (a .task-same) (t .0) (withMode Suspended)) (a .resource-same)
   changed-same (Dispatch x) k c d =
       agree-by l g s u a (a .clock-same) (stored-both (a .server-same) (x .0) (withPhase Running)) (a .task-same) (a .resource-same)
   changed-same (Preempt x) k c d =
@@ -335,7 +340,8 @@ module _ (l : Labels) (g : ℕ) (old was s u : State) (before : Agree l g old wa
   settled-same : (a : ℕ) → Agree l g (settled old a s) (settled was a u)
   unfolding settled
   settled-same a =
-      agree-by l g s u now (now .clock-same) (now .server-same) (each-both (now .task-same) (settledTask old a s) (settledTask was a u) (settled-task-same a)) (now .resource-same)
+      agree-by l g s u now (now .clock-same) (now .server-same)
+      (each-both (now .task-same) (settledTask old a s) (settledTask was a u) (settled-task-same a)) (now .resource-same)
 
 -- and where it is settled already it changes nothing
 runs-again : (x : Runs) → placed x ≡ true → placeNo x < places → runsIn (placeNo x) ≡ x

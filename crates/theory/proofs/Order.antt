@@ -170,9 +170,11 @@ module _ (l : Labels) where
   -- states on which all groups agree are equal
   whole : (s u : State) → Good l s → Good l u → ((g : ℕ) → Agree l g s u) → s ≡ u
   whole s u good fine a =
-      let ss = ext-getD noServer (s .server) (u .server) (good .shaped .servers ∙ sym (fine .shaped .servers)) (λ i m. a (l .of-task i) .server-same .entry i refl) in
-      let ts = ext-getD noTask (s .task) (u .task) (good .shaped .tasks ∙ sym (fine .shaped .tasks)) (λ i m. a (l .of-task i) .task-same .entry i refl) in
-      let rs = ext-getD noResource (s .resource) (u .resource) (good .shaped .resources ∙ sym (fine .shaped .resources)) (λ i m. a (l .of-resource i) .resource-same .entry i refl) in
+      let p = good .shaped in
+      let q = fine .shaped in
+      let ss = ext-getD noServer _ _ (p .servers ∙ sym (q .servers)) (λ i m. a (l .of-task i) .server-same .entry i refl) in
+      let ts = ext-getD noTask _ _ (p .tasks ∙ sym (q .tasks)) (λ i m. a (l .of-task i) .task-same .entry i refl) in
+      let rs = ext-getD noResource _ _ (p .resources ∙ sym (q .resources)) (λ i m. a (l .of-resource i) .resource-same .entry i refl) in
       λ i. record {
         processors = a 0 .processors-same i;
         tasks = a 0 .tasks-same i;
@@ -199,7 +201,8 @@ module _ (l : Labels) where
     reads-by : (v : Option ℕ) → verdict s e ≡ v → verdict u e ≡ v → outcome v s e .answer ≡ outcome v u e .answer
     unfolding free verdict
     reads-by none p q =
-        answered-same l g s u a good fine (stateAfter s e) (stateAfter u e) (after-same l g s u a good fine e seen (grounds s e p) (grounds u e q)) (rw p at (good-home l _ (good-keeps s e good))) e seen (grounds s e p)
+        answered-same l g s u a good fine (stateAfter s e) (stateAfter u e) (after-same l g s u a good fine e seen (grounds s e p) (grounds u e q))
+        (rw p at (good-home l _ (good-keeps s e good))) e seen (grounds s e p)
         (λ n q. absurd (time-group (ap (kindBy l) (sym q) ∙ k)))
     reads-by (some n) p q = refl
 

@@ -1,7 +1,7 @@
 -- A change of one task and one resource (`touched`): what is read after it, that stacks and queues which it cannot touch stay, and the moves that do
--- touch them: a resource taken or given up, a task that enters a queue (that the first leaves it is in Passing.antt). A stack and a queue are one thing, items that stand
--- once in the box that they point to, so each move is one of two laws (laws/proofs/Standing.antt, with model/proofs/Boxes.antt for the one box that
--- changes). Assumes nothing.
+-- touch them: a resource taken or given up, a task that enters a queue (that the first leaves it is in Passing.antt). A stack and a queue are one
+-- thing, items that stand once in the box that they point to, so each move is one of two laws (laws/proofs/Standing.antt, with model/proofs/Boxes.antt
+-- for the one box that changes). Assumes nothing.
 use Rattle.theory.proofs.Kit.{_≡_, refl, sym, ap, _∙_, true, false, ℕ, _+_, _<_, arith, eqb, getD, getD-set-same, getD-set-other, eqb-true, eqb-false}
 use Rattle.laws.specs.Tests.{if_then_else_, bit}
 use Rattle.laws.proofs.Cases.{split}
