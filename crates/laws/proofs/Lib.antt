@@ -9,4 +9,7 @@ pub mod Set
 pub mod Best
 pub mod Join
 pub mod Pigeonhole
+pub mod Ends
+pub mod SameAt
+pub mod Standing
 pub mod Unique

@@ -1,6 +1,7 @@
--- Laws of lists that the kit lacks: a store seen by cases, one store in two lists, and a list of one value. Assumes nothing.
+-- Laws of lists that the kit lacks: a store seen by cases, in one list and in two, what it leaves, and a list of one value. Assumes nothing.
 use mathlib.Core.Path.{_≡_, refl, sym, ap, _∙_}
 use mathlib.Core.List.{List, [], _∷_, map}
+use mathlib.Core.Logic.{_⊎_, inl, inr, ⊎-elim}
 use Prim.Native.Nat.{ℕ, zero, suc, _<_}
 use native.Mathlib.Omega.{arith}
 use lib.Dec.{eqb}
@@ -18,6 +19,19 @@ module _ {ℓ} {A : Type ℓ} where
       (eqb j i)
       (λ e. rw (e, eqb-true j i e) (getD-set-same l i a d h))
       (λ e. rw e (getD-set-other l i j a d (eqb-false j i e)))
+
+  -- in a list of any length a place has what was stored, or what it had
+  pub store-cases : (l : List A) (t : ℕ) (x d : A) (i : ℕ) → ((i ≡ t) × (getD (set l t x) i d ≡ x)) ⊎ (getD (set l t x) i d ≡ getD l i d)
+  store-cases [] t x d i = inr refl
+  store-cases (y ∷ l) zero x d zero = inl (refl, refl)
+  store-cases (y ∷ l) zero x d (suc i) = inr refl
+  store-cases (y ∷ l) (suc t) x d zero = inr refl
+  store-cases (y ∷ l) (suc t) x d (suc i) = ⊎-elim (λ h. inl (ap suc (h .0), h .1)) (λ h. inr h) (store-cases l t x d i)
+
+  -- so a relation that holds between the new entry and the old one holds everywhere: with equality of a field for the relation, a frame law
+  pub set-keeps
+      : (R : A → A → Type 0) (d : A) → ((a : A) → R a a) → (l : List A) (s i : ℕ) (x : A) → R x (getD l s d) → R (getD (set l s x) i d) (getD l i d)
+  set-keeps R d self l s i x new = ⊎-elim (λ c. rw (c .1, c .0) new) (λ c. rw c (self (getD l i d))) (store-cases l s x d i)
 
   -- lists of one length that agree at j agree there after one store in both
   pub set-both : (l m : List A) (i j : ℕ) (a d : A) → length l ≡ length m → getD l j d ≡ getD m j d → getD (set l i a) j d ≡ getD (set m i a) j d

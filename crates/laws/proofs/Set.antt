@@ -1,6 +1,6 @@
 -- Laws of `setTo`. A law named none, more, skip or done is a loop's, the value first. Assumes nothing.
 use mathlib.Core.Path.{_≡_, refl, sym, ap, ap₂, _∙_}
-use mathlib.Core.Logic.{⊎-elim}
+use mathlib.Core.Logic.{_⊎_, inl, inr, ⊎-elim}
 use mathlib.Core.List.{List}
 use Prim.Native.Nat.{ℕ, zero, suc, _+_, _<_, _≤_}
 use native.Mathlib.Numerals.{add-one}
@@ -12,6 +12,7 @@ use borrow.Author.Tests.{ltb-true, ltb-false}
 use Rattle.laws.specs.Tests.{if_then_else_}
 use Rattle.laws.specs.Loops.{setTo}
 use Rattle.laws.proofs.Cases.{split}
+use Rattle.laws.proofs.Lists.{store-cases}
 use Rattle.laws.proofs.Fold.{turns-done, last-or-below}
 
 module _ {ℓ} {A : Type ℓ} where
@@ -78,3 +79,19 @@ module _ {ℓ} {A : Type ℓ} where
       (λ i m.
       let k : i < length xs = omega (arith, length-setTo n f xs) in
       set-at n i f xs (f 0) (omega arith) k ∙ sym (set-at n i f ys (f 0) (omega arith) (omega arith)))
+
+  -- in a list of any length a place has what was made for it, or what it had
+  pub each-cases : (n : ℕ) (f : ℕ → A) (l : List A) (d : A) (i : ℕ) → (getD (setTo n f l) i d ≡ f i) ⊎ (getD (setTo n f l) i d ≡ getD l i d)
+  unfolding setTo
+  each-cases zero f l d i = inr refl
+  each-cases (suc n) f l d i =
+      ⊎-elim
+      (λ h. inl (h .1 ∙ ap f (sym (h .0))))
+      (λ h. ⊎-elim (λ k. inl (h ∙ k)) (λ k. inr (h ∙ k)) (each-cases n f l d i))
+      (store-cases (setTo n f l) n (f n) d i)
+
+  -- so a relation between new entries and old ones holds everywhere
+  pub setTo-keeps
+      : (R : A → A → Type 0) (d : A) → ((a : A) → R a a) → (n : ℕ) (g : ℕ → A) (l : List A) (i : ℕ) → ((j : ℕ) → R (g j) (getD l j d))
+      → R (getD (setTo n g l) i d) (getD l i d)
+  setTo-keeps R d self n g l i new = ⊎-elim (λ c. rw c (new i)) (λ c. rw c (self (getD l i d))) (each-cases n g l d i)

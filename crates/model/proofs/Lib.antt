@@ -3,5 +3,7 @@ pub mod Sound
 pub mod Chosen
 pub mod RuleH
 pub mod Room
+pub mod Boxes
+pub mod Variants
 pub mod Fresh
 pub mod Grounds

@@ -6,15 +6,16 @@ use mathlib.Core.Logic.{⊎-elim}
 use Prim.Native.Nat.{ℕ, _<_, _≤_}
 use native.Mathlib.Omega.{arith}
 use lib.Dec.{ltb}
-use lib.ListN.{length, List·getD-eq-default}
+use lib.ListN.{length}
 use borrow.Author.Tests.{eqb-true, lt-ltb, ltb-true, ltb-false}
-use Rattle.laws.specs.Loops.{setTo}
 use Rattle.laws.proofs.Cases.{split, holds-fails, and-left, and-right}
-use Rattle.laws.proofs.Set.{length-setTo, set-at, set-cases}
+use Rattle.laws.proofs.Set.{set-at, setTo-keeps}
 use Rattle.model.specs.declared.Runs.the-variants.{Nowhere}
+use Rattle.model.specs.declared.Runs.{Runs}
+use Rattle.model.specs.declared.Task.{Task}
 use Rattle.model.specs.declared.State.{State}
 use Rattle.model.specs.State.{places, nobody, noTask, taskAt, here, present, awaited, placed, placeNo, ownerOf, next, served, runningAt, runningFor, executorOf, executing}
-use Rattle.model.specs.RuleH.{chosen, executorBy, runsIn, settledTask, settled}
+use Rattle.model.specs.RuleH.{withRuns, chosen, executorBy, runsIn, settledTask, settled}
 use Rattle.model.proofs.Chain.{here-below, same-served, served-here}
 use Rattle.model.proofs.Chosen.{chosen-best, chosen-serves, chosen-some}
 
@@ -92,19 +93,24 @@ runs-placed s l = rw (lt-ltb s places l)
 placed-runs : (s : ℕ) → placed (runsIn s) ≡ true → s < places
 placed-runs s h = split (ltb s places) (λ y. ltb-true s places y) (λ n. holds-fails (rw n at h) refl)
 
+-- rule H leaves every field of a task but one
+pub settled-task
+    : (R : Task → Task → Type 0) → ((k : Task) → R k k) → ((x : Runs) (k : Task) → R (withRuns x k) k) → (old st : State) (acting t : ℕ)
+    → R (taskAt (settled old acting st) t) (taskAt st t)
+unfolding settled settledTask
+settled-task R self blind old st acting t =
+    setTo-keeps R noTask self places _ (st .task) t
+    (λ j. split (here st j) (λ h. rw h (blind _ (taskAt st j))) (λ n. rw n (self (taskAt st j))))
+
+pub settled-field
+    : {A : Type 0} (f : Task → A) → ((x : Runs) (k : Task) → f (withRuns x k) ≡ f k) → (old st : State) (acting t : ℕ)
+    → f (taskAt (settled old acting st) t) ≡ f (taskAt st t)
+settled-field f = settled-task (λ k l. f k ≡ f l) (λ k. refl)
+
 module _ (old st : State) (acting : ℕ) where
   -- a task keeps its mode, so that no chain changes
   settled-mode : (t : ℕ) → taskAt (settled old acting st) t .mode ≡ taskAt st t .mode
-  unfolding settled settledTask
-  settled-mode t =
-      split
-      (ltb t (length (st .task)))
-      (λ y.
-      ap (λ k. k .mode) (set-cases places t _ (st .task) noTask (ltb-true _ _ y))
-      ∙ split (ltb t places) (λ l. rw l (split (here st t) (λ h. rw h) (λ n. rw n))) (λ g. rw g))
-      (λ n.
-      let m : length (st .task) ≤ t = ltb-false _ _ n in
-      ap (λ k. k .mode) (List·getD-eq-default (setTo places _ (st .task)) noTask (rw (length-setTo places _ (st .task)) m) ∙ sym (List·getD-eq-default (st .task) noTask m)))
+  settled-mode = settled-field (λ k. k .mode) (λ x k. refl) old st acting
 
   pub settled-here : (i : ℕ) → here (settled old acting st) i ≡ here st i
   unfolding settled here

@@ -14,10 +14,10 @@ use Rattle.model.specs.declared.Event.{Event}
 use Rattle.model.specs.declared.Event.the-variants.{Wake, Suspend, Dispatch, Preempt, Elapse, Recharge, Lock, Unlock}
 use Rattle.model.specs.Shape.{Shaped}
 use Rattle.model.specs.Step.{tests}
-use Rattle.theory.proofs.Agree.{Agree}
+use Rattle.theory.proofs.Agreement.{Agree}
 use Rattle.promises.specs.Demand1.{RefusedSame, RefusedListed, PastKept, SameInUse, PastUnread, numbers, Among}
 use Rattle.theory.proofs.Refusals as P
-use Rattle.theory.proofs.Past as Q
+use Rattle.theory.proofs.Outcomes as Q
 use Rattle.theory.proofs.Unread.{unread, stepped-here, stepped-present, used, used-covers, used-here, used-present}
 
 pub refused-same : RefusedSame

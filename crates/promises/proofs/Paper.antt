@@ -12,10 +12,10 @@ use Rattle.model.specs.declared.Event.the-variants.{Wake, Suspend, Dispatch, Pr
 use Rattle.model.specs.State.{places, taskAt, resourceAt, suspended, idle, recharging, next, ownerNo, served, executing}
 use Rattle.model.specs.Step.{stateAfter, stepped}
 use Rattle.model.proofs.Chain.{end-itself}
-use Rattle.theory.proofs.Ready.{runs-ready}
+use Rattle.theory.proofs.Executing.{runs-ready}
 use Rattle.model.proofs.Sound.{Loose, sound-facts}
 use Rattle.model.proofs.Grounds.{Grounds}
-use Rattle.theory.proofs.Rules.{served-kept}
+use Rattle.theory.proofs.Executing.{served-kept}
 use Rattle.promises.specs.Paper.{Proper, Lambda, LockingFree, LockingOccupied, UnlockingFree, Unlocking, Through, InnerUnlocking, Preemption, RechargingRule, Dispatching, Suspension, Waking, OneToServe}
 use Rattle.theory.proofs.Steps.{after-here}
 use Rattle.theory.proofs.Refusals.{goes-grounds, goes-after, goes-loose}

@@ -15,9 +15,9 @@ use Rattle.model.specs.Shape.{Shaped}
 use Rattle.model.specs.Events.{pushed, popped, withOwner, granted, locked, freed, unlocked}
 use Rattle.model.specs.Step.{stateAfter}
 use Rattle.model.proofs.Sound.{Loose}
-use Rattle.theory.proofs.Touch.{touched-reads}
+use Rattle.theory.proofs.StacksAndQueues.{touched-reads}
 use Rattle.model.proofs.Grounds.{Grounds}
-use Rattle.theory.proofs.Rules.{Quiet, served-kept}
+use Rattle.theory.proofs.Executing.{Quiet, served-kept}
 use Rattle.theory.proofs.Steps.{after-server, after-resource, after-for, executor-same}
 
 module _ (st : State) (shaped : Shaped st) (facts : Loose st) where

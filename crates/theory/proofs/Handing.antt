@@ -29,10 +29,10 @@ use Rattle.model.proofs.Sound.{Loose}
 use Rattle.model.proofs.RuleH.{settled-next}
 use Rattle.model.proofs.Room.{stack-held, first-here, first-waits}
 use Rattle.theory.proofs.Calm.{Calm, loose-calm}
-use Rattle.theory.proofs.Ready.{runs-ready, runs-ended}
+use Rattle.theory.proofs.Executing.{runs-ready, runs-ended}
 use Rattle.theory.proofs.Passing as T
 use Rattle.model.proofs.Grounds.{Grounds}
-use Rattle.theory.proofs.Kept.{heir-room}
+use Rattle.theory.proofs.Soundness.{heir-room}
 use Rattle.theory.proofs.Steps.{executor-none, nobody-serves, after-resource, executor-kept, executor-taken}
 use Rattle.theory.proofs.Lambda.{served-leads}
 use Rattle.theory.proofs.Through.{leads-last, through-end, apart-end}

@@ -21,9 +21,9 @@ use Rattle.model.proofs.Sound.{Loose}
 use Rattle.model.proofs.RuleH.{settled-next}
 use Rattle.model.proofs.Room.{queue-room, executing-waits}
 use Rattle.theory.proofs.Calm.{asleep, loose-calm}
-use Rattle.theory.proofs.Ready.{runs-for, runs-served, runs-ready, runs-ended}
-use Rattle.theory.proofs.Stirs.{each-at}
-use Rattle.theory.proofs.Waiting.{owner-here, link-others, ends-after-wait, new-end}
+use Rattle.theory.proofs.Executing.{runs-for, runs-served, runs-ready, runs-ended}
+use Rattle.theory.proofs.Serving.{each-at}
+use Rattle.theory.proofs.Locking.{owner-here, link-others, ends-after-wait, new-end}
 use Rattle.model.proofs.Grounds.{Grounds}
 use Rattle.theory.proofs.Steps.{executor-none, nobody-serves, after-server, after-running, executor-kept, executor-taken}
 use Rattle.theory.proofs.Readings.{for-running, running-for, running-here, spins-by}

@@ -11,7 +11,7 @@ use Rattle.laws.proofs.Pigeonhole.{walk-ended, walk-linked, leads-walk}
 use Rattle.model.specs.declared.State.{State}
 use Rattle.model.specs.State.{places, here, next, served}
 use Rattle.model.proofs.Chain.{here-below, served-walk}
-use Rattle.theory.proofs.Links.{end-reached}
+use Rattle.laws.proofs.Ends.{end-reached}
 
 module _ (n : ℕ) (next : ℕ → ℕ) where
   -- k hops come to x itself, or to where some links lead

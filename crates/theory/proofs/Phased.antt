@@ -13,7 +13,7 @@ use Rattle.model.specs.Shape.{Shaped}
 use Rattle.model.specs.Events.{withPhase, phased}
 use Rattle.model.proofs.Sound.{Loose}
 use Rattle.theory.proofs.Calm.{loose-calm}
-use Rattle.theory.proofs.Stirs.{put-at}
+use Rattle.theory.proofs.Serving.{put-at}
 
 module _ (st : State) (shaped : Shaped st) (facts : Loose st) (p : Phase) (s : ℕ) (used : here st s ≡ true) where
   phased-at : (i : ℕ) → serverAt (phased p st s) i ≡ (if eqb i s then withPhase p (serverAt st s) else serverAt st i)

@@ -16,9 +16,9 @@ use Rattle.model.specs.Shape.{Shaped}
 use Rattle.model.specs.Events.{refilled, wakes, wokenServer, woken, rests, restedServer, rested, slept}
 use Rattle.model.specs.Step.{stateAfter}
 use Rattle.model.proofs.Sound.{Loose}
-use Rattle.theory.proofs.Stirs.{each-at}
+use Rattle.theory.proofs.Serving.{each-at}
 use Rattle.model.proofs.Grounds.{Grounds}
-use Rattle.theory.proofs.Rules.{served-kept}
+use Rattle.theory.proofs.Executing.{served-kept}
 use Rattle.theory.proofs.Steps.{after-here, after-server, executor-serves}
 use Rattle.theory.proofs.Readings.{for-running, for-served, running-here, rests-at}
 

@@ -9,7 +9,7 @@ use borrow.Author.Tests.{ltb-true, ltb-false, eqb-true, eqb-false}
 use Rattle.laws.specs.Links.{walk, Leads, Ended}
 use Rattle.laws.proofs.Cases.{split, holds-fails, unheld-fails}
 use Rattle.laws.proofs.Pigeonhole.{walk-ended, walk-linked}
-use Rattle.theory.proofs.Links.{end-reached}
+use Rattle.laws.proofs.Ends.{end-reached}
 
 -- the last of some links
 pub leads-last : (n : ℕ) (next : ℕ → ℕ) (k x y : ℕ) → Leads n next (suc k) x y → (w : ℕ) × Leads n next k x w × (next w ≡ y)

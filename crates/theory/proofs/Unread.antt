@@ -1,38 +1,25 @@
 -- What lies past the counts is not read: two states that agree on what is in use are sound together, get one answer to an event and agree after it.
--- What is in use is a group, for any labels that give it the number 0; so most of it is what the theorems on order say of a group. Assumes nothing.
-use mathlib.Core.Path.{_≡_, refl, sym, ap, ap₂, _∙_}
-use mathlib.Core.Bool.{Bool, true, false, not, _||_}
-use mathlib.Core.List.{List, _∷_}
-use mathlib.Core.Logic.{_⊎_, inl, inr, ⊎-elim}
-use mathlib.Core.Option.{Option, none, some}
-use Prim.Native.Nat.{ℕ, _+_}
-use native.Mathlib.Omega.{arith}
-use lib.Dec.{ltb, eqb}
+-- What is in use is a group, for any labels that give it the number 0: all that soundness asks, each test, the change, rule H and the answer read that
+-- group alone, and most of this is what Locality.antt and Order.antt say of a group. Only the tests and the answer that speak of all servers
+-- (no processor free, an elapse) are compared here. Assumes nothing.
+use Rattle.theory.proofs.Kit.{_≡_, refl, sym, ap, ap₂, _∙_, Bool, true, false, not, _||_, List, _∷_, Option, none, some, ℕ, _+_, arith, ltb, eqb, eq-eqb}
 use Rattle.laws.specs.Tests.{if_then_else_, _when_or_, accepted, firstOf, without}
 use Rattle.laws.proofs.Cases.{split, holds-fails, unheld-fails, if-yes, first-yes}
 use Rattle.laws.proofs.Count.{count-ext}
 use Rattle.laws.proofs.All.{all-ext}
-use Rattle.reordering.specs.Order.{time, group, sees}
-use Rattle.reordering.proofs.Local.{time-group}
-use Rattle.model.specs.declared.State.{State}
-use Rattle.model.specs.declared.Outcome.{Outcome}
-use Rattle.model.specs.declared.Event.{Event}
-use Rattle.model.specs.declared.Event.the-variants.{Wake, Suspend, Dispatch, Preempt, Elapse, Recharge, Lock, Unlock}
-use Rattle.model.specs.declared.Answer.the-variants.{Ok}
+use Rattle.reordering.specs.Order.{group, sees}
+use Rattle.theory.proofs.Declared.{State, Outcome, Event, Wake, Suspend, Dispatch, Preempt, Elapse, Recharge, Lock, Unlock}
 use Rattle.model.specs.State.{places, serverAt, taskAt, resourceAt, here, present, declares, served, runningAt, runningFor}
 use Rattle.model.specs.Sound.{clockLimit, each, ifHere, heldAt, queuedAt, sound}
 use Rattle.model.specs.Shape.{Shaped}
 use Rattle.model.specs.Events.{runsOut}
-use Rattle.model.specs.Step.{crowded, affords, tests, answered, stateAfter, outcome, stepped}
+use Rattle.model.specs.Step.{crowded, affords, tests, stateAfter, outcome, stepped}
 use Rattle.model.proofs.Sound.{Loose, sound-facts}
 use Rattle.model.proofs.Grounds.{Grounds, grounds, unrefused-free}
-use Rattle.theory.proofs.Kept.{outcome-has}
-use Rattle.theory.proofs.Always.{stepped-sound}
-use Rattle.theory.proofs.Rules.{stepped-unsound}
-use Rattle.theory.proofs.Agree.{Labels, Agree, Homed, agree-sym, here-same, present-same, next-same, served-same, served-in, for-same}
-use Rattle.theory.proofs.Good.{Good}
-use Rattle.theory.proofs.Verdict.{kindBy, verdict, verdict-same}
-use Rattle.theory.proofs.Free.{after-same, answered-same}
+use Rattle.theory.proofs.Outcomes.{stepped-has, stepped-sound}
+use Rattle.theory.proofs.Agreement.{Labels, Agree, Homed, agree-sym, here-same, present-same, next-same, served-same, served-in, for-same, Good}
+use Rattle.theory.proofs.Locality.{kindBy, after-same}
+use Rattle.theory.proofs.Order.{verdict, verdict-same, answered-same}
 use Rattle.theory.proofs.Steps.{after-here, after-present}
 
 -- what is in use has the label 0
@@ -139,8 +126,7 @@ by-actor
     : (s u : State) (t : ℕ) (xs ys : List (ℕ × Bool)) → here s t ≡ here u t
     → (here s t ≡ true → firstOf ((2, not (here s t)) ∷ xs) ≡ firstOf ((2, not (here u t)) ∷ ys))
     → firstOf ((2, not (here s t)) ∷ xs) ≡ firstOf ((2, not (here u t)) ∷ ys)
-by-actor s u t xs ys same f =
-    split (here s t) f (λ n. first-yes 2 _ xs (ap not n) ∙ sym (first-yes 2 _ ys (ap not (sym same ∙ n))))
+by-actor s u t xs ys same f = split (here s t) f (λ n. first-yes 2 _ xs (ap not n) ∙ sym (first-yes 2 _ ys (ap not (sym same ∙ n))))
 
 module _ (l : Labels) (s u : State) (c : Covers l s) (a : Agree l 0 s u) (shaped : Shaped s) (other : Shaped u) (y : sound s ≡ true) where
   good : Good l s
@@ -168,10 +154,7 @@ module _ (l : Labels) (s u : State) (c : Covers l s) (a : Agree l 0 s u) (shaped
   out-both : (n i : ℕ) → runsOut s n i ≡ runsOut u n i
   unfolding runsOut runningAt
   out-both n i =
-      split
-      (here s i)
-      (λ h. rw (← (here-same l 0 s u a i), h, a .server-same .entry i (c .task i h)))
-      (λ n. rw (← (here-same l 0 s u a i), n))
+      split (here s i) (λ h. rw (← (here-same l 0 s u a i), h, a .server-same .entry i (c .task i h))) (λ n. rw (← (here-same l 0 s u a i), n))
 
   -- one verdict,
   firsts : (e : Event) → firstOf (tests s e) ≡ firstOf (tests u e)
@@ -189,49 +172,33 @@ module _ (l : Labels) (s u : State) (c : Covers l s) (a : Agree l 0 s u) (shaped
   firsts (Unlock t r) = by-actor s u (t .0) _ _ (here-same l 0 s u a (t .0)) (λ h. verdict-same l 0 s u a good fine (Unlock t r) (ap group (c .task (t .0) h)))
 
   -- an accepted event is time passing or the group's own
-  kinds : (e : Event) → Grounds s e → (kindBy l e ≡ time) ⊎ (kindBy l e ≡ group 0)
-  kinds (Wake t) g = inr (ap group (c .task (t .0) (g .0)))
-  kinds (Suspend t) g = inr (ap group (c .task (t .0) (g .0)))
-  kinds (Dispatch x) g = inr (ap group (c .task (x .0) (g .0)))
-  kinds (Preempt x) g = inr (ap group (c .task (x .0) (g .0)))
-  kinds (Elapse n) g = inl refl
-  kinds (Recharge x) g = inr (ap group (c .task (x .0) (g .0)))
-  kinds (Lock t r) g = inr (ap group (c .task (t .0) (g .0)))
-  kinds (Unlock t r) g = inr (ap group (c .task (t .0) (g .0)))
+  seen : (e : Event) → Grounds s e → sees 0 (kindBy l e) ≡ true
+  seen (Wake t) g = eq-eqb _ 0 (c .task (t .0) (g .0))
+  seen (Suspend t) g = eq-eqb _ 0 (c .task (t .0) (g .0))
+  seen (Dispatch x) g = eq-eqb _ 0 (c .task (x .0) (g .0))
+  seen (Preempt x) g = eq-eqb _ 0 (c .task (x .0) (g .0))
+  seen (Elapse n) g = refl
+  seen (Recharge x) g = eq-eqb _ 0 (c .task (x .0) (g .0))
+  seen (Lock t r) g = eq-eqb _ 0 (c .task (t .0) (g .0))
+  seen (Unlock t r) g = eq-eqb _ 0 (c .task (t .0) (g .0))
 
   after-home : (e : Event) → Homed l (stateAfter s e)
   after-home e =
       covered-home l (stateAfter s e)
       (record { task = λ i h. c .task i (sym (after-here s e i) ∙ h); resource = λ r p. c .resource r (sym (after-present s e r) ∙ p) })
 
-  -- only an elapse is time
-  told-time : (v w : State) (e : Event) → kindBy l e ≡ time → answered s v e ≡ answered u w e
-  told-time v w (Wake t) k = absurd (time-group (sym k))
-  told-time v w (Suspend t) k = absurd (time-group (sym k))
-  told-time v w (Dispatch x) k = absurd (time-group (sym k))
-  told-time v w (Preempt x) k = absurd (time-group (sym k))
-  told-time v w (Elapse n) k = ap Ok (count-ext places (runsOut s n) (runsOut u n) (λ i m. out-both n i))
-  told-time v w (Recharge x) k = absurd (time-group (sym k))
-  told-time v w (Lock t r) k = absurd (time-group (sym k))
-  told-time v w (Unlock t r) k = absurd (time-group (sym k))
-
   -- one answer, and agreement after it
   abbrev Both : (v w : Outcome) → Type 0
   Both v w = (v .answer ≡ w .answer) × Agree l 0 (v .state) (w .state)
 
   outcomes : (e : Event) (v : Option ℕ) → firstOf (tests s e) ≡ v → firstOf (tests u e) ≡ v → Both (outcome v s e) (outcome v u e)
-  unfolding verdict
   outcomes e none p q =
-      let fs : verdict s e ≡ none = unrefused-free s e p in
-      let fu : verdict u e ≡ none = unrefused-free u e q in
-      ⊎-elim
-      (λ k.
-      let b = after-same l 0 s u a good fine e (ap (sees 0) k) fs fu in
-      (told-time (stateAfter s e) (stateAfter u e) e k, b))
-      (λ k.
-      let b = after-same l 0 s u a good fine e (ap (sees 0) k) fs fu in
-      (answered-same l 0 s u a good fine (stateAfter s e) (stateAfter u e) b (after-home e) e k fs, b))
-      (kinds e (grounds s e fs))
+      let gs = grounds s e (unrefused-free s e p) in
+      let b = after-same l 0 s u a good fine e (seen e gs) gs (grounds u e (unrefused-free u e q)) in (
+        answered-same l 0 s u a good fine (stateAfter s e) (stateAfter u e) b (after-home e) e (seen e gs) gs
+            (λ n d. count-ext places (runsOut s n) (runsOut u n) (λ i m. out-both n i)),
+        b,
+      )
   outcomes e (some n) p q = (refl, a)
 
   pub sound-unread : (e : Event) → Both (stepped s e) (stepped u e)
@@ -251,18 +218,11 @@ unread l s u c a shaped other e =
     rw (n, m) (refl, a))
 
 -- what is in use is so after a step
-stepped-has : (P : State → Type 0) (st : State) (e : Event) → P st → P (stateAfter st e) → P (stepped st e .state)
-stepped-has P st e before after =
-    split
-    (sound st)
-    (λ y. rw (stepped-sound st e y) (outcome-has P (firstOf (tests st e)) st e before (λ h. after)))
-    (λ n. rw (stepped-unsound st e n) before)
-
 pub stepped-here : (st : State) (e : Event) (i : ℕ) → here (stepped st e .state) i ≡ here st i
-stepped-here st e i = stepped-has (λ x. here x i ≡ here st i) st e refl (after-here st e i)
+stepped-here st e i = stepped-has (λ x. here x i ≡ here st i) st e refl (λ y h. after-here st e i)
 
 pub stepped-present : (st : State) (e : Event) (r : ℕ) → present (stepped st e .state) r ≡ present st r
-stepped-present st e r = stepped-has (λ x. present x r ≡ present st r) st e refl (after-present st e r)
+stepped-present st e r = stepped-has (λ x. present x r ≡ present st r) st e refl (λ y h. after-present st e r)
 
 -- the labels that say what is in use
 module _ (st : State) where

@@ -1,19 +1,18 @@
--- What it is for two states to agree on a group, and that what a group reads is its own: for any labelling of tasks and resources under which
--- waiters and owners have their resource's label (`Homed`), chains, servers that serve and executors stay inside. Assumes nothing.
-use mathlib.Core.Path.{_≡_, refl, sym, ap, _∙_}
-use mathlib.Core.Bool.{Bool, true, false, _&&_}
-use Prim.Native.Nat.{ℕ, zero, suc, _<_}
-use native.Mathlib.Omega.{arith}
-use lib.Dec.{ltb, eqb}
-use lib.ListN.{length}
-use borrow.Author.Tests.{ltb-true, eqb-true, eqb-false}
+-- What it is for two states to agree on a group, for any labelling of tasks and resources. A labelling fits where a resource has the label of each task
+-- that declares it; declarations never change. Then who waits for a resource and who owns it have its label (`Homed`), which is far weaker than
+-- soundness and holds of the state between change and rule H too, and it is all that locality needs: chains stay inside a label (`served-home`), so
+-- what a group reads is its own: ends, who serves, who executes, whom rule H would choose. `Good` is what `free` keeps; nothing in it speaks of
+-- processors. Every number has a label, so entries past the counts and undeclared resources need nothing special. Assumes nothing.
+use Rattle.theory.proofs.Kit.{_≡_, refl, sym, ap, _∙_, Bool, true, false, _&&_, inl, inr, ℕ, zero, suc, _<_, arith, ltb, eqb, length, ltb-true, eqb-true, eqb-false}
 use Rattle.laws.proofs.Cases.{split, and-left, and-right}
+use Rattle.laws.proofs.SameAt.{SameAt, same-refl, same-sym, same-trans}
 use Rattle.model.specs.declared.State.{State}
-use Rattle.model.specs.State.{places, noServer, noTask, noResource, taskAt, resourceAt, here, present, awaited, ownerNo, ownerOf, next, chainEnd, served, runningAt, runningFor, executorOf, executing, executes}
+use Rattle.model.specs.State.{places, noServer, noTask, noResource, taskAt, resourceAt, here, present, awaited, ownerNo, ownerOf, next, chainEnd, served, runningAt, runningFor, executorOf, executing, executes, declares}
 use Rattle.model.specs.RuleH.{budgetAt, chosen}
+use Rattle.model.specs.Shape.{Shaped}
 use Rattle.model.proofs.Chain.{linked-here}
 use Rattle.model.proofs.Chosen.{chosen-alone}
-use Rattle.theory.proofs.Parts.{Same, same-refl, same-sym, same-trans}
+use Rattle.model.proofs.Sound.{Loose}
 
 -- a label for each task (and server), and one for each resource
 pub record Labels : Type 0 where
@@ -26,9 +25,9 @@ pub record Agree (l : Labels) (g : ℕ) (s u : State) : Type 0 where
   pub tasks-same : s .tasks ≡ u .tasks
   pub resources-same : s .resources ≡ u .resources
   pub clock-same : s .clock ≡ u .clock
-  pub server-same : Same (l .of-task) g places noServer (s .server) (u .server)
-  pub task-same : Same (l .of-task) g places noTask (s .task) (u .task)
-  pub resource-same : Same (l .of-resource) g places noResource (s .resource) (u .resource)
+  pub server-same : SameAt (l .of-task) g places noServer (s .server) (u .server)
+  pub task-same : SameAt (l .of-task) g places noTask (s .task) (u .task)
+  pub resource-same : SameAt (l .of-resource) g places noResource (s .resource) (u .resource)
 
 -- who waits for a resource and who owns it have its label
 pub record Homed (l : Labels) (st : State) : Type 0 where
@@ -47,9 +46,9 @@ module _ (l : Labels) where
         tasks-same = refl;
         resources-same = refl;
         clock-same = refl;
-        server-same = same-refl _ _ _ _ _ p;
-        task-same = same-refl _ _ _ _ _ q;
-        resource-same = same-refl _ _ _ _ _ r;
+        server-same = same-refl _ p;
+        task-same = same-refl _ q;
+        resource-same = same-refl _ r;
       }
 
   pub agree-sym : (g : ℕ) (s u : State) → Agree l g s u → Agree l g u s
@@ -59,9 +58,9 @@ module _ (l : Labels) where
         tasks-same = sym (a .tasks-same);
         resources-same = sym (a .resources-same);
         clock-same = sym (a .clock-same);
-        server-same = same-sym _ _ _ _ (a .server-same);
-        task-same = same-sym _ _ _ _ (a .task-same);
-        resource-same = same-sym _ _ _ _ (a .resource-same);
+        server-same = same-sym (a .server-same);
+        task-same = same-sym (a .task-same);
+        resource-same = same-sym (a .resource-same);
       }
 
   pub agree-trans : (g : ℕ) (s u v : State) → Agree l g s u → Agree l g u v → Agree l g s v
@@ -71,9 +70,9 @@ module _ (l : Labels) where
         tasks-same = a .tasks-same ∙ b .tasks-same;
         resources-same = a .resources-same ∙ b .resources-same;
         clock-same = a .clock-same ∙ b .clock-same;
-        server-same = same-trans _ _ _ _ (a .server-same) (b .server-same);
-        task-same = same-trans _ _ _ _ (a .task-same) (b .task-same);
-        resource-same = same-trans _ _ _ _ (a .resource-same) (b .resource-same);
+        server-same = same-trans (a .server-same) (b .server-same);
+        task-same = same-trans (a .task-same) (b .task-same);
+        resource-same = same-trans (a .resource-same) (b .resource-same);
       }
 
   -- chains stay inside
@@ -157,10 +156,7 @@ module _ (l : Labels) where
       end-same zero t e = refl
       end-same (suc left) t e =
           rw (← (next-same t e))
-          (split
-          (ltb (next s t) places)
-          (λ y. rw y (end-same left (next s t) (next-home s home t (ltb-true _ _ y) ∙ e)))
-          (λ n. rw n refl))
+          (split (ltb (next s t) places) (λ y. rw y (end-same left (next s t) (next-home s home t (ltb-true _ _ y) ∙ e))) (λ n. rw n refl))
 
       pub served-same : (t : ℕ) → l .of-task t ≡ g → served s t ≡ served u t
       unfolding served
@@ -194,3 +190,23 @@ module _ (l : Labels) where
       unfolding budgetAt
       chosen-same t e =
           chosen-alone s u t t (λ x k. for-same t e x) (λ x k h. ap (λ v. v .budget) (a .server-same .entry x (for-home s home t x h ∙ e)))
+
+-- the labels fit what is declared: a resource has the label of each task that declares it
+abbrev pub Fits : Labels → State → Type 0
+Fits l st = (t r : ℕ) → here st t ≡ true → present st r ≡ true → declares st t r ≡ true → l .of-resource r ≡ l .of-task t
+
+-- what `free` keeps
+pub record Good (l : Labels) (st : State) : Type 0 where
+  pub loose : Loose st
+  pub shaped : Shaped st
+  pub fits : Fits l st
+
+pub good-home : (l : Labels) (st : State) → Good l st → Homed l st
+good-home l st ok =
+    record {
+      waits = λ t h p. ok .fits t _ h p (ok .loose .declared t h _ p (inr refl));
+      owns = λ r p h. ok .fits _ r h p (ok .loose .declared _ h r p (inl refl));
+    }
+
+pub good-self : (l : Labels) (g : ℕ) (st : State) → Good l st → Agree l g st st
+good-self l g st ok = agree-refl l g st (ok .shaped .servers) (ok .shaped .tasks) (ok .shaped .resources)

@@ -1,0 +1,206 @@
+-- Soundness is kept, and what it says over all runs. An accepted event's change is calm (the laws of Serving, Locking and Passing, put
+-- together by the grounds that its tests leave), rule H makes a calm state loose, and processors are counted by themselves (Processors.antt). So
+-- `free` keeps a state loose and shaped (`free-kept`), a step keeps it sound (`kept`), and every state that a list of events reaches from a fresh
+-- table is sound (`sound-always`). From that: refusal 1 never comes, a task executes in one server and does where a Running server serves it, a
+-- resource has one owner, and waiting never goes in a circle. Assumes nothing.
+use Rattle.theory.proofs.Kit.{_≡_, refl, sym, _∙_, ap, true, true≢false, false, some, List, [], _∷_, ℕ, _<_, arith, eqb, eqb-true, eqb-false, eq-eqb}
+use Rattle.laws.specs.Tests.{firstOf, without, bit}
+use Rattle.laws.specs.Loops.{countTo}
+use Rattle.laws.proofs.Cases.{split, holds-fails, unheld-fails, and-left, and-right, and-both}
+use Rattle.laws.proofs.Count.{count-zero, count-but-one}
+use Rattle.laws.proofs.Standing.{stands-points}
+use Rattle.reordering.specs.Run.{after, log, Each, Never}
+use Rattle.theory.proofs.Declared.{TaskNo, State, Event, Wake, Suspend, Dispatch, Preempt, Elapse, Recharge, Lock, Unlock, Table}
+use Rattle.model.specs.State.{places, taskAt, resourceAt, owned, ownerNo, served, here, placed, runningAt, runningFor, executorOf, executing, executes}
+use Rattle.model.specs.Shape.{Shaped}
+use Rattle.model.specs.Events.{firstWaiter, locked, unlocked, changed, acting}
+use Rattle.model.specs.Step.{endsAt, tests, stateAfter, free, stepped, move}
+use Rattle.model.specs.Sound.{sound}
+use Rattle.model.specs.Fresh.{freshState}
+use Rattle.model.proofs.Chain.{here-below, open-unclosed}
+use Rattle.model.proofs.Sound.{Loose, Sound, sound-facts}
+use Rattle.model.proofs.Room.{stack-room, queue-room, stack-held, first-here, first-waits, executing-waits, loose-stacks}
+use Rattle.model.proofs.Grounds.{Grounds, grounds, unrefused-free}
+use Rattle.model.proofs.RuleH.{serving-below}
+use Rattle.model.proofs.Fresh.{fresh-sound, fresh-shaped}
+use Rattle.model.proofs.Variants.{number-owned}
+use Rattle.theory.specs.Runs.{Accepted, reached, refusedBy, executesIn, Holds}
+use Rattle.theory.specs.Demand2.{Kept, SoundAlways, NeverUnsound, OneServer, ServersThatExecute, OneOwner, NoCycle}
+use Rattle.theory.proofs.Frames.{settled-shaped, changed-shaped}
+use Rattle.theory.proofs.Calm.{Calm, loose-calm, settled-loose}
+use Rattle.theory.proofs.Executing.{runs-ready, runs-ended, runs-for}
+use Rattle.theory.proofs.Serving.{wake-calm, sleep-calm, dispatch-calm, preempt-calm, recharge-calm, elapse-calm}
+use Rattle.theory.proofs.Locking.{grant-calm, free-calm, wait-calm}
+use Rattle.theory.proofs.Passing.{pass-calm}
+use Rattle.theory.proofs.Outcomes.{stepped-sound, outcome-has, outcome-not, no-test-1}
+use Rattle.theory.proofs.Processors.{seated-after}
+
+module _ (st : State) (shaped : Shaped st) (facts : Loose st) where
+  abbrev c : Calm st
+  c = loose-calm st facts
+
+  lock-calm : (t : TaskNo) (r : ℕ) → Grounds st (Lock t r) → Calm (locked st (t .0) r)
+  unfolding locked endsAt
+  lock-calm t r g =
+      split
+      (owned (resourceAt st r .owner))
+      (λ y.
+      let room = queue-room st facts (t .0) r (g .0) (g .1) (executing-waits st facts (t .0) (g .3) r (g .1) y) in
+      let apart : served st (ownerNo (resourceAt st r .owner)) ≡ t .0 → ⊥ = eqb-false _ _ (rw y at (g .5)) in
+      let ready = runs-ready st facts (t .0) (g .3) in
+      let ended = runs-ended st facts (t .0) (g .3) in
+      rw y (wait-calm st shaped c (t .0) r (g .0) (g .1) (g .2) ready ended y room apart))
+      (λ n.
+      let none-waits = facts .unqueued r (g .1) (λ o. true≢false (sym o ∙ n)) in
+      rw n (grant-calm st shaped c (t .0) r (g .0) (g .1) none-waits (g .2) (stack-room st facts (t .0) r (g .0) (g .1) (g .4)) n))
+
+  -- who inherits has room for it
+  pub heir-room : (t : TaskNo) (r : ℕ) → Grounds st (Unlock t r) → 0 < resourceAt st r .waiting → taskAt st (firstWaiter (resourceAt st r)) .depth < places
+  heir-room t r g queue =
+      stack-room st facts (firstWaiter (resourceAt st r)) r (first-here st facts r (g .1) queue) (g .1)
+      (λ e.
+      let owner : firstWaiter (resourceAt st r) ≡ t .0 = sym e ∙ g .3 in
+      executing-waits st facts (t .0) (g .2) r (g .1)
+      (number-owned (resourceAt st r .owner) (rw (g .3) (here-below st (t .0) (g .0))))
+      (rw owner at (first-waits st facts r (g .1) queue)))
+
+  unlock-calm : (t : TaskNo) (r : ℕ) → Grounds st (Unlock t r) → Calm (unlocked st (t .0) r)
+  unfolding unlocked
+  unlock-calm t r g =
+      let deep = stack-held st facts (t .0) r (g .0) (g .1) (g .3) in
+      split
+      (eqb (resourceAt st r .waiting) 0)
+      (λ y. rw y (free-calm st shaped c (t .0) r (g .0) (g .1) (eqb-true _ 0 y) (g .3) (g .4) deep))
+      (λ n.
+      let some : 0 < resourceAt st r .waiting = omega (arith, eqb-false (resourceAt st r .waiting) 0 n) in
+      let h = firstWaiter (resourceAt st r) in
+      let used = first-here st facts r (g .1) some in
+      let waits = first-waits st facts r (g .1) some in
+      let ready = runs-ready st facts (t .0) (g .2) in
+      let ended = runs-ended st facts (t .0) (g .2) in
+      let room = heir-room t r g some in
+      rw n (pass-calm st shaped c (t .0) r h (g .0) (g .1) ready ended (g .3) (g .4) deep some refl used waits room))
+
+  changed-calm : (e : Event) → Grounds st e → Calm (changed st e)
+  changed-calm (Wake t) g = wake-calm st shaped c (t .0) (g .0) (g .1)
+  changed-calm (Suspend t) g = sleep-calm st shaped c (t .0) (g .0) (runs-ready st facts (t .0) (g .1))
+  changed-calm (Dispatch s) g = dispatch-calm st shaped c (s .0) (g .0) (g .1)
+  changed-calm (Preempt s) g = preempt-calm st shaped c (s .0) (g .0) (g .1)
+  changed-calm (Elapse n) g = elapse-calm st shaped c n (g .0) (g .1) (g .2)
+  changed-calm (Recharge s) g = recharge-calm st shaped c (s .0) (g .0)
+  changed-calm (Lock t r) g = lock-calm t r g
+  changed-calm (Unlock t r) g = unlock-calm t r g
+
+  -- an event that no test refuses, with rule H
+  pub after-loose : (e : Event) → Grounds st e → Shaped (stateAfter st e) × Loose (stateAfter st e)
+  unfolding stateAfter
+  after-loose e g =
+      let d = changed-shaped st shaped e in
+      (settled-shaped st (changed st e) (acting st e) d, settled-loose st (changed st e) (acting st e) d (changed-calm e g))
+
+-- `free` keeps a state loose and shaped
+pub free-kept : (st : State) (e : Event) → Shaped st → Loose st → Shaped (free st e .state) × Loose (free st e .state)
+unfolding free
+free-kept st e shaped facts =
+    outcome-has (λ x. Shaped x × Loose x) (firstOf (without 8 (tests st e))) st e (shaped, facts)
+    (λ h. after-loose st shaped facts e (grounds st e h))
+
+-- soundness is kept by every event,
+pub kept : Kept
+kept st e shaped s =
+    rw (stepped-sound st e s)
+    (outcome-has (λ x. Shaped x × (sound x ≡ true)) (firstOf (tests st e)) st e (shaped, s)
+    (λ h.
+    let f : Sound st = sound-facts st .holds s in
+    let g = grounds st e (unrefused-free st e h) in
+    let a = after-loose st shaped (f .is-loose) e g in
+    (a .0, sound-facts (stateAfter st e) .test (record { is-loose = a .1; is-seated = seated-after st e (f .is-seated) g h }))))
+
+always : (st : State) → Shaped st → sound st ≡ true → (es : List Event) → sound (after move st es) ≡ true
+unfolding after
+always st shaped s [] = s
+always st shaped s (e ∷ es) = let k = kept st e shaped s in always (stepped st e .state) (k .0) (k .1) es
+
+-- and so holds after every list from fresh
+pub sound-always : SoundAlways
+sound-always tb a es = always (freshState tb) (fresh-shaped tb) (fresh-sound tb a) es
+
+-- no event of such a list is refused for an unsound state
+never : (st : State) → Shaped st → sound st ≡ true → (es : List Event) → Never (refusedBy 1) (log move st es)
+unfolding log Each
+never st shaped s [] = tt
+never st shaped s (e ∷ es) =
+    let k = kept st e shaped s in
+    (rw (stepped-sound st e s) (outcome-not 1 (firstOf (tests st e)) st e (no-test-1 st e)), never (stepped st e .state) (k .0) (k .1) es)
+
+pub never-unsound : NeverUnsound
+never-unsound tb a es = never (freshState tb) (fresh-shaped tb) (fresh-sound tb a) es
+
+-- who executes t is the server that t has
+executes-in : (st : State) (t s : ℕ) → executesIn st t s ≡ true → executorOf st t ≡ s
+unfolding executes
+executes-in st t s h =
+    let e : served st s ≡ t = eqb-true _ t (and-right (executes st s) _ h) in
+    ap (executorOf st) (sym e) ∙ eqb-true _ s (and-right (runningAt st s) _ (and-left (executes st s) _ h))
+
+pub one-server : OneServer
+one-server tb a es t s u p q = sym (executes-in (reached tb es) t s p) ∙ executes-in (reached tb es) t u q
+
+-- waiting never goes in a circle
+facts-always : (tb : Table) → Accepted tb → (es : List Event) → Loose (reached tb es)
+facts-always tb a es = sound-facts (reached tb es) .holds (sound-always tb a es) .is-loose
+
+pub no-cycle : NoCycle
+no-cycle tb a es t j = open-unclosed (reached tb es) (facts-always tb a es .opens) t j
+
+-- at most one task owns a resource
+module _ (st : State) (facts : Loose st) where
+  holder-owns : (t r : ℕ) → here st t ≡ true → Holds st t r → ownerNo (resourceAt st r .owner) ≡ t
+  holder-owns t r u h = rw (← (h .there)) (stands-points (loose-stacks st facts) (here-below st) t (h .place) u (h .within))
+
+  pub served-executes : (t s : ℕ) → here st t ≡ true → runningFor st t s ≡ true → executing st t ≡ true
+  unfolding runningFor runningAt executing
+  served-executes t s u h =
+      let r = and-left (runningAt st s) _ h in
+      let e = eqb-true _ t (and-right (runningAt st s) _ h) in
+      and-both (here st t) _ u (ap (λ x. placed (taskAt st x .runs)) (sym e) ∙ facts .serves s (and-left (here st s) _ r) r)
+
+  pub executes-for : (t s : ℕ) → executesIn st t s ≡ true → runningFor st t s ≡ true
+  unfolding executes runningFor
+  executes-for t s h = and-both (runningAt st s) _ (and-left (runningAt st s) _ (and-left (executes st s) _ h)) (and-right (executes st s) _ h)
+
+  executor-executes : (t : ℕ) → executing st t ≡ true → executesIn st t (executorOf st t) ≡ true
+  unfolding executes runningFor
+  executor-executes t runs =
+      let f = runs-for st facts t runs in
+      let s = executorOf st t in
+      let e : served st s ≡ t = eqb-true _ t (and-right (runningAt st s) _ f) in
+      and-both (executes st s) _
+      (and-both (runningAt st s) _ (and-left (runningAt st s) _ f) (eq-eqb (executorOf st (served st s)) s (ap (executorOf st) e)))
+      (eq-eqb (served st s) t e)
+
+  -- one server executes a task that executes, none one that does not
+  pub servers-count : (t : ℕ) → here st t ≡ true → countTo places (executesIn st t) ≡ bit (executing st t)
+  servers-count t u =
+      split
+      (executing st t)
+      (λ y.
+      let s = executorOf st t in
+      let in-it = executor-executes t y in
+      let k = count-but-one places s (executesIn st t) (λ j. false) (serving-below st t s (executes-for t s in-it))
+      (λ j l n. unheld-fails _ (λ h. n (sym (executes-in st t j h)))) in
+      omega (arith, k, ap bit y, ap bit in-it, count-zero places (λ j. false) (λ i l. refl)))
+      (λ n.
+      count-zero places (executesIn st t)
+      (λ s l. unheld-fails _ (λ h. holds-fails (served-executes t s u (executes-for t s h)) n))
+      ∙ sym (ap bit n))
+
+pub one-owner : OneOwner
+one-owner tb a es t u r p q g h =
+    let f = facts-always tb a es in
+    sym (holder-owns (reached tb es) f t r p g) ∙ holder-owns (reached tb es) f u r q h
+
+pub servers-that-execute : ServersThatExecute
+servers-that-execute tb a es t u =
+    let f = facts-always tb a es in
+    (servers-count (reached tb es) f t u, λ s h. served-executes (reached tb es) f t s u h)
