@@ -50,3 +50,4 @@ pub mod Through
 pub mod Handing
 pub mod Past
 pub mod Unread
+pub mod InUse
