@@ -39,9 +39,10 @@ pub mod Refusals
 pub mod Lambda
 pub mod Readings
 pub mod Steps
-pub mod Phased
+pub mod Storing
 pub mod Preempting
 pub mod Dispatching
+pub mod Refilling
 pub mod Elapsing
 pub mod Sleeping
 pub mod Freeing
