@@ -8,7 +8,8 @@ use Rattle.theory.proofs.Sleeping as S
 use Rattle.theory.proofs.Freeing as F
 use Rattle.theory.proofs.Joining as J
 use Rattle.theory.proofs.Handing as H
-use Rattle.promises.specs.Paper.{Lambda, LockingFree, LockingOccupied, UnlockingFree, Unlocking, InnerUnlocking, Preemption, RechargingRule, Refilling, Dispatching, Suspension, Waking, OneToServe}
+use Rattle.theory.proofs.Fixed as X
+use Rattle.promises.specs.Paper.{Lambda, LockingFree, LockingOccupied, UnlockingFree, Unlocking, InnerUnlocking, Preemption, RechargingRule, Refilling, Dispatching, Suspension, Waking, OneToServe, RulesFix}
 
 pub lambda : Lambda
 lambda st shaped is j k u v d = L.lambda st j k u d
@@ -48,3 +49,17 @@ unlocking = H.hands-all
 
 pub inner-unlocking : InnerUnlocking
 inner-unlocking = H.passes-on
+
+pub rules-fix : RulesFix
+rules-fix = record {
+  dispatching = X.dispatched-fixed;
+  preemption = X.preempted-fixed;
+  recharging = X.elapsed-fixed;
+  refilling = X.recharged-fixed;
+  suspension = X.slept-fixed;
+  waking = X.woken-fixed;
+  locking-free = X.granted-fixed;
+  locking-occupied = X.behind-fixed;
+  unlocking-free = X.freed-fixed;
+  unlocking = X.passed-fixed;
+}

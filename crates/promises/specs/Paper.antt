@@ -13,6 +13,7 @@ use Rattle.model.specs.Sound.{sound}
 use Rattle.model.specs.Shape.{Shaped}
 use Rattle.model.specs.Events.{firstWaiter}
 use Rattle.model.specs.Step.{stepped}
+use Rattle.theory.specs.Runs.{SameInUse}
 use Rattle.theory.specs.Rules.{Proper, Inherits, Blocked, Dispatched, Preempted, Elapsed, Recharged, Slept, Woken, Granted, LockedBehind, Freed, Passed, HandedOver}
 
 abbrev pub stateAfterwards : State → Event → State
@@ -83,3 +84,17 @@ abbrev pub OneToServe : Type 0
 OneToServe =
     (st : State) → Shaped st → sound st ≡ true → (s : ℕ) → here st s ≡ true →
     (places ≤ next st (served st s)) × (serverAt st s .phase ≡ Idle → suspended (taskAt st (served st s) .mode) ≡ true)
+
+-- Each rule fixes the whole next state: two states that it allows after one and the same state differ past the counts only, and what lies there stays
+-- in every event (Demand1.PastKept)
+pub record RulesFix : Type 0 where
+  pub dispatching : (st a b : State) (s : ℕ) → Dispatched st a s → Dispatched st b s → SameInUse a b
+  pub preemption : (st a b : State) (s : ℕ) → Preempted st a s → Preempted st b s → SameInUse a b
+  pub recharging : (st a b : State) (n : ℕ) → Elapsed st a n → Elapsed st b n → SameInUse a b
+  pub refilling : (st a b : State) (s : ℕ) → Recharged st a s → Recharged st b s → SameInUse a b
+  pub suspension : (st a b : State) (j : ℕ) → Slept st a j → Slept st b j → SameInUse a b
+  pub waking : (st a b : State) (j : ℕ) → Woken st a j → Woken st b j → SameInUse a b
+  pub locking-free : (st a b : State) (t r : ℕ) → Granted st a t r → Granted st b t r → SameInUse a b
+  pub locking-occupied : (st a b : State) (t r j : ℕ) → LockedBehind st a t r j → LockedBehind st b t r j → SameInUse a b
+  pub unlocking-free : (st a b : State) (j r : ℕ) → Freed st a j r → Freed st b j r → SameInUse a b
+  pub unlocking : (st a b : State) (j r i : ℕ) → Passed st a j r i → Passed st b j r i → SameInUse a b

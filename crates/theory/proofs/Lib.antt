@@ -52,3 +52,4 @@ pub mod Handing
 pub mod Past
 pub mod Unread
 pub mod InUse
+pub mod Fixed
