@@ -12,10 +12,10 @@ use Rattle.theory.proofs.Fixed as X
 use Rattle.promises.specs.Paper.{Lambda, LockingFree, LockingOccupied, UnlockingFree, Unlocking, InnerUnlocking, Preemption, RechargingRule, Refilling, Dispatching, Suspension, Waking, OneToServe, RulesFix}
 
 pub lambda : Lambda
-lambda st shaped is j k u v d = L.lambda st j k u d
+lambda = L.lambda
 
 pub one-to-serve : OneToServe
-one-to-serve st shaped = L.one-to-serve st
+one-to-serve = L.one-to-serve
 
 pub dispatching : Dispatching
 dispatching = D.dispatched

@@ -10,7 +10,6 @@ use Rattle.model.specs.declared.Event.{Event}
 use Rattle.model.specs.declared.Event.the-variants.{Wake, Suspend, Dispatch, Preempt, Elapse, Recharge, Lock, Unlock}
 use Rattle.model.specs.State.{places, serverAt, taskAt, resourceAt, here, suspended, owned, ownerNo, next, served}
 use Rattle.model.specs.Sound.{sound}
-use Rattle.model.specs.Shape.{Shaped}
 use Rattle.model.specs.Events.{firstWaiter}
 use Rattle.model.specs.Step.{stepped}
 use Rattle.theory.specs.Runs.{SameInUse}
@@ -19,10 +18,10 @@ use Rattle.theory.specs.Rules.{Proper, Inherits, Blocked, Dispatched, Preempted
 abbrev pub stateAfterwards : State → Event → State
 stateAfterwards st e = stepped st e .state
 
--- Λ_j = { S_k | τ_k → .. → τ_j } ∪ { S_j }, for a τ_j that is not blocked
+-- Λ_j = { S_k | τ_k → .. → τ_j } ∪ { S_j }, for a τ_j that is not blocked; in any state
 abbrev pub Lambda : Type 0
 Lambda =
-    (st : State) → Shaped st → sound st ≡ true → (j k : ℕ) → here st k ≡ true → here st j ≡ true → places ≤ next st j →
+    (st : State) (j k : ℕ) → here st k ≡ true → places ≤ next st j →
     (Inherits st j k → (k ≡ j) ⊎ Blocked st k j) × ((k ≡ j) ⊎ Blocked st k j → Inherits st j k)
 
 -- Locking, the resource free: the task owns it, and whoever executed goes on executing
@@ -82,7 +81,7 @@ Waking = (st : State) (j : ℕ) → Proper st (Wake (record { 0 = j })) → Woke
 -- Lemma 2: every server has one task to serve that is not blocked, and is Idle only behind one that suspended itself
 abbrev pub OneToServe : Type 0
 OneToServe =
-    (st : State) → Shaped st → sound st ≡ true → (s : ℕ) → here st s ≡ true →
+    (st : State) → sound st ≡ true → (s : ℕ) → here st s ≡ true →
     (places ≤ next st (served st s)) × (serverAt st s .phase ≡ Idle → suspended (taskAt st (served st s) .mode) ≡ true)
 
 -- Each rule fixes the whole next state: two states that it allows after one and the same state differ past the counts only, and what lies there stays
