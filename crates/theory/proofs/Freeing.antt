@@ -14,7 +14,7 @@ use Rattle.model.specs.State.{taskAt, resourceAt, here, present, running, owned
 use Rattle.model.specs.Events.{pushed, popped, withOwner, granted, locked, freed, unlocked, changed}
 use Rattle.model.specs.Step.{stateAfter, stepped}
 use Rattle.theory.specs.Rules.{Proper, Rest, ExecutorsStay, TaskIs, only, nothing, Granted, Freed}
-use Rattle.theory.proofs.Touch.{touched, touched-task, touched-resource}
+use Rattle.theory.proofs.Touch.{touched, touched-shows, touched-reads}
 use Rattle.theory.proofs.Rules.{Quiet}
 use Rattle.theory.proofs.Steps.{Way, properly, after-server, after-resource, task-is, rest-by, ends-stay, executors-stay}
 
@@ -22,17 +22,17 @@ use Rattle.theory.proofs.Steps.{Way, properly, after-server, after-reso
 module _ (st : State) (e : Event) (w : Way st e) (t r : ℕ) (k : Task) (x : Resource) (is : changed st e ≡ touched st t r k x) where
   module _ (used : here st t ≡ true) (known : present st r ≡ true) where
     entry : resourceAt (stateAfter st e) r ≡ x
-    entry = after-resource st e r ∙ ap (λ z. resourceAt z r) is ∙ touched-resource st (w .shaped) t r used known k x r ∙ rw (eq-eqb r r refl)
+    entry = after-resource st e r ∙ ap (λ z. resourceAt z r) is ∙ touched-reads st (w .shaped) t r used known k x (λ z. z) r ∙ rw (eq-eqb r r refl)
 
     stored : TaskIs (stateAfter st e) t k
-    stored = task-is st e w t used k (ap (λ z. taskAt z t) is ∙ touched-task st (w .shaped) t r used known k x t ∙ rw (eq-eqb t t refl))
+    stored = task-is st e w t used k (ap (λ z. taskAt z t) is ∙ touched-shows st (w .shaped) t r used known k x (λ z. z) t ∙ rw (eq-eqb t t refl))
 
     rest : Rest st (stateAfter st e) (st .clock) nothing (only t) (only r)
     rest =
         rest-by st e w (st .clock) nothing (only t) (only r) (rw is)
         (λ s u n. rw is)
-        (λ i u n. ap (λ z. taskAt z i) is ∙ touched-task st (w .shaped) t r used known k x i ∙ rw (ne-eqb i t n))
-        (λ q u n. ap (λ z. resourceAt z q) is ∙ touched-resource st (w .shaped) t r used known k x q ∙ rw (ne-eqb q r n))
+        (λ i u n. ap (λ z. taskAt z i) is ∙ touched-shows st (w .shaped) t r used known k x (λ z. z) i ∙ rw (ne-eqb i t n))
+        (λ q u n. ap (λ z. resourceAt z q) is ∙ touched-reads st (w .shaped) t r used known k x (λ z. z) q ∙ rw (ne-eqb q r n))
 
   goes-on : Quiet st e → ExecutorsStay st (stateAfter st e) nothing
   goes-on q = executors-stay st e w q (λ s u. ap (λ (z : Server). running (z .phase)) (after-server st e s) ∙ rw is)

@@ -28,7 +28,7 @@ use Rattle.theory.specs.Rules.{Proper, Inherits, ExecutorsStay, Executes
 use Rattle.theory.proofs.Calm.{asleep, loose-calm}
 use Rattle.theory.proofs.Ready.{runs-for, runs-served, runs-ready, runs-ended}
 use Rattle.theory.proofs.Stirs.{each-at}
-use Rattle.theory.proofs.Touch.{touched-task, touched-resource}
+use Rattle.theory.proofs.Touch.{touched-shows, touched-reads}
 use Rattle.theory.proofs.Waiting.{owner-here, link-others, ends-after-wait, new-end}
 use Rattle.theory.proofs.Steps.{Way, properly, executor-none, nobody-serves, after-here, after-server, after-resource, after-running, task-is, rest-by, same-for, executor-kept, executor-taken, executor-lost, executor-same}
 use Rattle.theory.proofs.Readings.{for-running, for-served, running-for, running-here, rests-at, spins-by}
@@ -186,14 +186,14 @@ module _ (st : State) (t r : ℕ) (taken : owned (resourceAt st r .owner) ≡ tr
   task-now i =
       ap (λ z. taskAt z i) changed-is
       ∙ rested-blind (λ z. taskAt z i) (λ ss u. refl) mid t
-      ∙ touched-task st (w .shaped) t r (w .ground .0) (w .ground .1) k line i
+      ∙ touched-shows st (w .shaped) t r (w .ground .0) (w .ground .1) k line (λ z. z) i
 
   resource-now : (q : ℕ) → resourceAt (changed st e) q ≡ (if eqb q r then line else resourceAt st q)
   unfolding joined
   resource-now q =
       ap (λ z. resourceAt z q) changed-is
       ∙ rested-blind (λ z. resourceAt z q) (λ ss u. refl) mid t
-      ∙ touched-resource st (w .shaped) t r (w .ground .0) (w .ground .1) k line q
+      ∙ touched-reads st (w .shaped) t r (w .ground .0) (w .ground .1) k line (λ z. z) q
 
   clock-now : changed st e .clock ≡ st .clock
   unfolding joined
