@@ -18,9 +18,9 @@ use Rattle.theory.specs.Runs.{spins}
 use Rattle.theory.specs.Rules.{Proper, ExecutorsStay, only, Dispatched}
 use Rattle.theory.proofs.Ready.{active-is, runs-for}
 use Rattle.theory.proofs.Always.{served-executes}
-use Rattle.theory.proofs.Steps.{Way, properly, after-here, ends-stay, executor-kept, executor-serves, executor-some, executor-same}
+use Rattle.theory.proofs.Steps.{Way, properly, after-here, ends-stay, executor-kept, executor-serves, executor-some}
 use Rattle.theory.proofs.Readings.{for-running, for-served, for-here, running-for, runs-at, rests-at, spins-by, executes-by}
-use Rattle.theory.proofs.Storing.{stored-server, stored-rest, stored-for}
+use Rattle.theory.proofs.Storing.{stored-server, stored-rest, stored-for, stored-executor}
 
 module _ (st : State) (s : ℕ) (w : Way st (Dispatch (record { 0 = s }))) where
   abbrev e : Event
@@ -57,17 +57,10 @@ module _ (st : State) (s : ℕ) (w : Way st (Dispatch (record { 0 = s }))) where
 
   -- tasks that it does not serve see no difference
   others : ExecutorsStay st after (only t)
+  unfolding phased
   others u v n =
-      executor-same st e w u v
-      (λ i h.
-      split
-      (eqb i s)
-      (λ y.
-      let q : i ≡ s = eqb-true i s y in
-      rw q
-      (unheld-fails _ (λ f. n (sym (for-served after u s f) ∙ end))
-      ∙ sym (unheld-fails _ (λ f. holds-fails (for-running st u s f) was-off))))
-      (λ m. stored u i h (eqb-false i s m)))
+      stored-executor st e w s x (w .ground .0) refl tt u v
+      (unheld-fails _ (λ f. n (sym (for-served after u s f) ∙ end)) ∙ sym (unheld-fails _ (λ f. holds-fails (for-running st u s f) was-off)))
 
   module _ (y : executing st t ≡ true) where
     apart : executorOf st t ≡ s → ⊥

@@ -7,6 +7,7 @@ use Prim.Native.Nat.{ℕ, _+_}
 use lib.Dec.{eqb}
 use borrow.Author.Tests.{eqb-true, eqb-false}
 use Rattle.laws.proofs.Cases.{split, holds-fails}
+use Rattle.model.specs.declared.Phase.{Phase}
 use Rattle.model.specs.declared.Mode.the-variants.{Suspended, Ready, Waiting}
 use Rattle.model.specs.declared.Server.{Server}
 use Rattle.model.specs.declared.Task.{Task}
@@ -17,7 +18,7 @@ use Rattle.model.specs.Events.{withMode, runsOut, tickedTask, pushed, popped}
 use Rattle.model.proofs.Chain.{same-served}
 use Rattle.model.proofs.Chosen.{chosen-alone}
 use Rattle.theory.specs.Runs.{SameInUse}
-use Rattle.theory.specs.Rules.{TaskIs, Rest, only, nothing, Dispatched, Preempted, Elapsed, Recharged, Slept, Woken, Granted, LockedBehind, Freed, Passed}
+use Rattle.theory.specs.Rules.{Inherits, TaskIs, Rest, only, nothing, Dispatched, Preempted, Elapsed, Recharged, Slept, Woken, Granted, LockedBehind, Freed, Passed}
 use Rattle.theory.proofs.Readings.{for-here}
 
 -- whether a number is touched can be told
@@ -248,16 +249,27 @@ module _ (st a b : State) where
         (λ m. x .executors t u m ∙ sym (y .executors t u m))
         (told-test (runsOut st n (executorOf st t)) true))
 
+  -- suspend and wake: the servers of a set that a test tells, and the task
+  set-stored
+      : (j : ℕ) (test : Phase → Bool) (is : Bool) (k : Task)
+      → Rest st a (st .clock) (λ s. (served st s ≡ j) × (test (serverAt st s .phase) ≡ is)) (only j) nothing
+      → Rest st b (st .clock) (λ s. (served st s ≡ j) × (test (serverAt st s .phase) ≡ is)) (only j) nothing
+      → ((s : ℕ) → Inherits st j s → test (serverAt st s .phase) ≡ is → serverAt a s ≡ serverAt b s)
+      → TaskIs a j k → TaskIs b j k
+      → Entries st a b
+  set-stored j test is k x y same l m =
+      entries-by st a b (st .clock) (λ s. (served st s ≡ j) × (test (serverAt st s .phase) ≡ is)) (only j) nothing x y
+      (λ s. told-both (told-only j (served st s)) (told-test (test (serverAt st s .phase)) is))
+      (λ s u q. same s (u, q .0) (q .1))
+      (told-only j)
+      (one-task j k l m)
+      told-nothing
+      no-resource
+
   pub slept-fixed : (j : ℕ) → Slept st a j → Slept st b j → SameInUse a b
   slept-fixed j x y =
       fixed st a b
-      (entries-by st a b (st .clock) (λ s. (served st s ≡ j) × (recharging (serverAt st s .phase) ≡ false)) (only j) nothing (x .rest) (y .rest)
-      (λ s. told-both (told-only j (served st s)) (told-test (recharging (serverAt st s .phase)) false))
-      (λ s u q. x .set s (u, q .0) (q .1) ∙ sym (y .set s (u, q .0) (q .1)))
-      (told-only j)
-      (one-task j (withMode Suspended (taskAt st j)) (x .sleeps) (y .sleeps))
-      told-nothing
-      no-resource)
+      (set-stored j recharging false (withMode Suspended (taskAt st j)) (x .rest) (y .rest) (λ s i q. x .set s i q ∙ sym (y .set s i q)) (x .sleeps) (y .sleeps))
       (λ t u.
       ⊎-elim
       (λ q. rw q (x .nowhere .1 ∙ sym (y .nowhere .1)))
@@ -267,13 +279,7 @@ module _ (st a b : State) where
   pub woken-fixed : (j : ℕ) → Woken st a j → Woken st b j → SameInUse a b
   woken-fixed j x y =
       fixed st a b
-      (entries-by st a b (st .clock) (λ s. (served st s ≡ j) × (idle (serverAt st s .phase) ≡ true)) (only j) nothing (x .rest) (y .rest)
-      (λ s. told-both (told-only j (served st s)) (told-test (idle (serverAt st s .phase)) true))
-      (λ s u q. x .set s (u, q .0) (q .1) ∙ sym (y .set s (u, q .0) (q .1)))
-      (told-only j)
-      (one-task j (withMode Ready (taskAt st j)) (x .wakes) (y .wakes))
-      told-nothing
-      no-resource)
+      (set-stored j idle true (withMode Ready (taskAt st j)) (x .rest) (y .rest) (λ s i q. x .set s i q ∙ sym (y .set s i q)) (x .wakes) (y .wakes))
       (λ t u. x .executors t u (λ q. q) ∙ sym (y .executors t u (λ q. q)))
 
   -- a grant and a release store one task and one resource
@@ -338,34 +344,28 @@ module _ (st a b : State) where
         (told-only r)
         (one-resource r (x .owner ∙ sym (y .owner)))
 
-    abbrev server : ℕ
-    server = executorOf st j
-
-    heir-same : executorOf a i ≡ executorOf b i
-    heir-same =
+    -- the releaser's executor, where it serves the task now, and else the best of its set
+    follows
+        : (t : ℕ)
+        → ((c : State) → Passed st c j r i → runningFor c t (executorOf st j) ≡ true → executorOf c t ≡ executorOf st j)
+        → ((c : State) → Passed st c j r i → runningFor c t (executorOf st j) ≡ false → executorOf c t ≡ chosen c t)
+        → executorOf a t ≡ executorOf b t
+    follows t goes stays =
+        let same = same-for st a b passed-entries t (executorOf st j) in
         split
-        (runningFor a i server)
-        (λ h. x .goes-with-heir h ∙ sym (y .goes-with-heir (sym (same-for st a b passed-entries i server) ∙ h)))
-        (λ n.
-        x .heir-goes-on n
-        ∙ same-chosen st a b passed-entries i
-        ∙ sym (y .heir-goes-on (sym (same-for st a b passed-entries i server) ∙ n)))
-
-    releaser-same : executorOf a j ≡ executorOf b j
-    releaser-same =
-        split
-        (runningFor a j server)
-        (λ h. x .stays-with-releaser h ∙ sym (y .stays-with-releaser (sym (same-for st a b passed-entries j server) ∙ h)))
-        (λ n.
-        x .releaser-goes-on n
-        ∙ same-chosen st a b passed-entries j
-        ∙ sym (y .releaser-goes-on (sym (same-for st a b passed-entries j server) ∙ n)))
+        (runningFor a t (executorOf st j))
+        (λ h. goes a x h ∙ sym (goes b y (sym same ∙ h)))
+        (λ n. stays a x n ∙ same-chosen st a b passed-entries t ∙ sym (stays b y (sym same ∙ n)))
 
     pub passed-fixed : SameInUse a b
     passed-fixed =
         fixed st a b passed-entries
         (λ t u.
         ⊎-elim
-        (λ c. ⊎-elim (λ q. rw q releaser-same) (λ q. rw q heir-same) c)
+        (λ c.
+        ⊎-elim
+        (λ q. rw q (follows j (λ d z. z .stays-with-releaser) (λ d z. z .releaser-goes-on)))
+        (λ q. rw q (follows i (λ d z. z .goes-with-heir) (λ d z. z .heir-goes-on)))
+        c)
         (λ n. x .executors t u n ∙ sym (y .executors t u n))
         (told-either (told-only j t) (told-only i t)))

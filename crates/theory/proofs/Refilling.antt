@@ -2,8 +2,6 @@
 use mathlib.Core.Path.{_≡_, refl, sym, ap, _∙_}
 use mathlib.Core.Bool.{true, false}
 use Prim.Native.Nat.{ℕ}
-use lib.Dec.{eqb}
-use borrow.Author.Tests.{eqb-true, eqb-false}
 use Rattle.laws.proofs.Cases.{split, holds-fails, unheld-fails}
 use Rattle.model.specs.declared.Phase.{Phase}
 use Rattle.model.specs.declared.Phase.the-variants.{Idle, Active, Running, Recharging}
@@ -11,13 +9,13 @@ use Rattle.model.specs.declared.Server.{Server}
 use Rattle.model.specs.declared.State.{State}
 use Rattle.model.specs.declared.Event.{Event}
 use Rattle.model.specs.declared.Event.the-variants.{Recharge}
-use Rattle.model.specs.State.{serverAt, taskAt, here, suspended, running, recharging, served, runningFor}
+use Rattle.model.specs.State.{serverAt, taskAt, suspended, running, recharging, served}
 use Rattle.model.specs.Events.{refilled, rechargedPhase, recharged}
 use Rattle.model.specs.Step.{stateAfter, stepped}
 use Rattle.theory.specs.Rules.{Proper, ExecutorsStay, nothing, Recharged}
-use Rattle.theory.proofs.Steps.{Way, properly, ends-stay, executor-same}
+use Rattle.theory.proofs.Steps.{Way, properly, ends-stay}
 use Rattle.theory.proofs.Readings.{for-running, rests-at}
-use Rattle.theory.proofs.Storing.{stored-server, stored-rest, stored-for}
+use Rattle.theory.proofs.Storing.{stored-server, stored-rest, stored-executor}
 
 recharging-off : (p : Phase) → recharging p ≡ true → running p ≡ false
 recharging-off Idle h = refl
@@ -39,26 +37,17 @@ module _ (st : State) (s : ℕ) (w : Way st (Recharge (record { 0 = s }))) where
   unfolding recharged
   full = stored-server st e w s x (w .ground .0) refl
 
-  stored : (u i : ℕ) → here st i ≡ true → (i ≡ s → ⊥) → runningFor after u i ≡ runningFor st u i
-  unfolding recharged
-  stored = stored-for st e w s x (w .ground .0) refl tt
-
   resting : running (rechargedPhase st s) ≡ false
   unfolding rechargedPhase
   resting = split (suspended (taskAt st (served st s) .mode)) (λ y. rw y) (λ n. rw n)
 
   -- it ran neither before nor after
   others : ExecutorsStay st after nothing
+  unfolding recharged
   others u v n =
-      executor-same st e w u v
-      (λ i h.
-      split
-      (eqb i s)
-      (λ y.
-      rw (eqb-true i s y)
+      stored-executor st e w s x (w .ground .0) refl tt u v
       (unheld-fails _ (λ f. holds-fails (for-running after u s f) (rests-at after s (ap (λ (z : Server). running (z .phase)) full ∙ resting)))
-      ∙ sym (unheld-fails _ (λ f. holds-fails (for-running st u s f) (rests-at st s (recharging-off (serverAt st s .phase) (w .ground .1)))))))
-      (λ m. stored u i h (eqb-false i s m)))
+      ∙ sym (unheld-fails _ (λ f. holds-fails (for-running st u s f) (rests-at st s (recharging-off (serverAt st s .phase) (w .ground .1))))))
 
   shows : Recharged st after s
   unfolding recharged rechargedPhase
