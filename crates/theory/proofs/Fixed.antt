@@ -269,7 +269,8 @@ module _ (st a b : State) where
   pub slept-fixed : (j : ℕ) → Slept st a j → Slept st b j → SameInUse a b
   slept-fixed j x y =
       fixed st a b
-      (set-stored j recharging false (withMode Suspended (taskAt st j)) (x .rest) (y .rest) (λ s i q. x .set s i q ∙ sym (y .set s i q)) (x .sleeps) (y .sleeps))
+      (set-stored j recharging false (withMode Suspended (taskAt st j)) (x .rest) (y .rest)
+      (λ s i q. x .set s i q ∙ sym (y .set s i q)) (x .sleeps) (y .sleeps))
       (λ t u.
       ⊎-elim
       (λ q. rw q (x .nowhere .1 ∙ sym (y .nowhere .1)))
@@ -279,7 +280,8 @@ module _ (st a b : State) where
   pub woken-fixed : (j : ℕ) → Woken st a j → Woken st b j → SameInUse a b
   woken-fixed j x y =
       fixed st a b
-      (set-stored j idle true (withMode Ready (taskAt st j)) (x .rest) (y .rest) (λ s i q. x .set s i q ∙ sym (y .set s i q)) (x .wakes) (y .wakes))
+      (set-stored j idle true (withMode Ready (taskAt st j)) (x .rest) (y .rest)
+      (λ s i q. x .set s i q ∙ sym (y .set s i q)) (x .wakes) (y .wakes))
       (λ t u. x .executors t u (λ q. q) ∙ sym (y .executors t u (λ q. q)))
 
   -- a grant and a release store one task and one resource

@@ -53,7 +53,9 @@ module _ (st : State) where
   leads-here (suc k) x y u l = leads-here k (next st x) y (next-here st x (l .0)) (l .1)
 
   -- a link goes from a task to the owner of what it awaits
-  linked-owner : (w t : ℕ) → t < places → next st w ≡ t → (present st (awaited (taskAt st w .mode)) ≡ true) × (ownerNo (resourceAt st (awaited (taskAt st w .mode)) .owner) ≡ t)
+  linked-owner
+      : (w t : ℕ) → t < places → next st w ≡ t
+      → (present st (awaited (taskAt st w .mode)) ≡ true) × (ownerNo (resourceAt st (awaited (taskAt st w .mode)) .owner) ≡ t)
   unfolding next ownerOf
   linked-owner w t l e =
       let q : ℕ = awaited (taskAt st w .mode) in
@@ -76,7 +78,8 @@ module _ (st : State) where
     where
       off : eqb (getD (taskAt st t .held) 0 0) q ≡ false → (j : ℕ) → heldAt st t q j ≡ false
       off n zero = unheld-fails _ (λ h. holds-fails (and-right (ltb 0 (taskAt st t .depth)) _ h) n)
-      off n (suc j) = unheld-fails _ (λ h. holds-fails (and-left (ltb (suc j) (taskAt st t .depth)) _ h) (le-ltb (suc j) (taskAt st t .depth) (omega arith)))
+      off n (suc j) =
+          unheld-fails _ (λ h. holds-fails (and-left (ltb (suc j) (taskAt st t .depth)) _ h) (le-ltb (suc j) (taskAt st t .depth) (omega arith)))
 
       none : eqb (getD (taskAt st t .held) 0 0) q ≡ false → countTo places (heldAt st t q) ≡ 0
       none n = count-zero places (heldAt st t q) (λ j l. off n j)
@@ -97,6 +100,18 @@ module _ (st : State) (t r : ℕ) (some : 0 < resourceAt st r .waiting) (way : W
   abbrev c : Calm st
   c = loose-calm st (way .facts)
 
+  used : here st t ≡ true
+  used = way .ground .0
+
+  known : present st r ≡ true
+  known = way .ground .1
+
+  owns : ownerNo (resourceAt st r .owner) ≡ t
+  owns = way .ground .3
+
+  top : topOf st t ≡ r
+  top = way .ground .4
+
   ready : taskAt st t .mode ≡ Ready
   ready = runs-ready st (way .facts) t (way .ground .2)
 
@@ -104,13 +119,13 @@ module _ (st : State) (t r : ℕ) (some : 0 < resourceAt st r .waiting) (way : W
   ended = runs-ended st (way .facts) t (way .ground .2)
 
   deep : 0 < taskAt st t .depth
-  deep = stack-held st (way .facts) t r (way .ground .0) (way .ground .1) (way .ground .3)
+  deep = stack-held st (way .facts) t r used known owns
 
   heir-used : here st h ≡ true
-  heir-used = first-here st (way .facts) r (way .ground .1) some
+  heir-used = first-here st (way .facts) r known some
 
   heir-waits : awaited (taskAt st h .mode) ≡ r
-  heir-waits = first-waits st (way .facts) r (way .ground .1) some
+  heir-waits = first-waits st (way .facts) r known some
 
   room : taskAt st h .depth < places
   room = heir-room st (way .shaped) (way .facts) (record { 0 = t }) r (way .ground) some
@@ -122,7 +137,7 @@ module _ (st : State) (t r : ℕ) (some : 0 < resourceAt st r .waiting) (way : W
   wants-by w u m = and-both (here st w) _ u (eq-eqb _ r (ap awaited m))
 
   by-wants : (w : ℕ) → wants w ≡ true → taskAt st w .mode ≡ Waiting r
-  by-wants w v = awaits-is (taskAt st w .mode) r (present-below st r (way .ground .1)) (eqb-true _ r (and-right (here st w) _ v))
+  by-wants w v = awaits-is (taskAt st w .mode) r (present-below st r known) (eqb-true _ r (and-right (here st w) _ v))
 
   changed-is : changed st e ≡ mid
   unfolding unlocked
@@ -139,13 +154,13 @@ module _ (st : State) (t r : ℕ) (some : 0 < resourceAt st r .waiting) (way : W
   heir-wants = and-both (here st h) _ heir-used (eq-eqb _ r heir-waits)
 
   heir-ends : places ≤ next mid h
-  heir-ends = T.heir-ends st (way .shaped) c t r h (way .ground .0) (way .ground .1) ready ended (way .ground .3) (way .ground .4) deep some refl heir-used heir-waits room
+  heir-ends = T.heir-ends st (way .shaped) c t r h used known ready ended owns top deep some refl heir-used heir-waits room
 
   link-moved : (y : ℕ) → (y ≡ h → ⊥) → wants y ≡ true → next mid y ≡ h
-  link-moved = T.link-moved st (way .shaped) c t r h (way .ground .0) (way .ground .1) ready ended (way .ground .3) (way .ground .4) deep some refl heir-used heir-waits room
+  link-moved = T.link-moved st (way .shaped) c t r h used known ready ended owns top deep some refl heir-used heir-waits room
 
   link-others : (y : ℕ) → (y ≡ h → ⊥) → wants y ≡ false → next mid y ≡ next st y
-  link-others = T.link-others st (way .shaped) c t r h (way .ground .0) (way .ground .1) ready ended (way .ground .3) (way .ground .4) deep some refl heir-used heir-waits room
+  link-others = T.link-others st (way .shaped) c t r h used known ready ended owns top deep some refl heir-used heir-waits room
 
   -- "what reached the releaser through this resource goes to the heir,
   through-heir : (k s w : ℕ) → here st s ≡ true → Leads places (next st) k s w → taskAt st w .mode ≡ Waiting r → served after s ≡ h
@@ -175,19 +190,19 @@ module _ (st : State) (t r : ℕ) (some : 0 < resourceAt st r .waiting) (way : W
   line = withOwner (By (record { 0 = h })) (dequeued (resourceAt st r))
 
   apart : t ≡ h → ⊥
-  apart q = omega (arith, ap awaited ready, ap (λ y. awaited (taskAt st y .mode)) q, heir-waits, present-below st r (way .ground .1))
+  apart q = omega (arith, ap awaited ready, ap (λ y. awaited (taskAt st y .mode)) q, heir-waits, present-below st r known)
 
   task-now : (y : ℕ) → taskAt (changed st e) y ≡ (if eqb y h then heir else if eqb y t then giver else taskAt st y)
   unfolding passed
   task-now y =
       ap (λ z. taskAt z y) changed-is
       ∙ getD-set (set (st .task) t giver) h y heir noTask (omega (arith, length-set (st .task) t giver, way .shaped .tasks, here-below st h heir-used))
-      ∙ ap (λ z. if eqb y h then heir else z) (getD-set (st .task) t y giver noTask (omega (arith, way .shaped .tasks, here-below st t (way .ground .0))))
+      ∙ ap (λ z. if eqb y h then heir else z) (getD-set (st .task) t y giver noTask (omega (arith, way .shaped .tasks, here-below st t used)))
 
   resource-now : (q : ℕ) → resourceAt (changed st e) q ≡ (if eqb q r then line else resourceAt st q)
   resource-now q =
       ap (λ z. resourceAt z q) changed-is
-      ∙ T.pass-resource st (way .shaped) c t r h (way .ground .0) (way .ground .1) ready ended (way .ground .3) (way .ground .4) deep some refl heir-used heir-waits room q
+      ∙ T.pass-resource st (way .shaped) c t r h used known ready ended owns top deep some refl heir-used heir-waits room q
 
   server-now : (s : ℕ) → serverAt (changed st e) s ≡ serverAt st s
   unfolding passed
@@ -205,8 +220,8 @@ module _ (st : State) (t r : ℕ) (some : 0 < resourceAt st r .waiting) (way : W
       omega (
         arith,
         runs-ended st (way .facts) h y,
-        T.heir-next st (way .shaped) c t r h (way .ground .0) (way .ground .1) ready ended (way .ground .3) (way .ground .4) deep some refl heir-used heir-waits room,
-        here-below st t (way .ground .0),
+        T.heir-next st (way .shaped) c t r h used known ready ended owns top deep some refl heir-used heir-waits room,
+        here-below st t used,
       ))
 
   heir-free : runningFor after h (executorOf st h) ≡ false
@@ -222,7 +237,7 @@ module _ (st : State) (t r : ℕ) (some : 0 < resourceAt st r .waiting) (way : W
       unheld-fails _ (λ f. n (inr (sym (for-served after y s f) ∙ after-mid s ∙ q .1)))
       ∙ sym (unheld-fails _ (λ f. n (inl (sym (for-served st y s f) ∙ q .0)))))
       (λ q. same-for st e way y s (after-mid s ∙ q) (ap (λ (x : Server). running (x .phase)) (after-server st e s ∙ server-now s)))
-      (T.ends-after-pass st (way .shaped) c t r h (way .ground .0) (way .ground .1) ready ended (way .ground .3) (way .ground .4) deep some refl heir-used heir-waits room s v))
+      (T.ends-after-pass st (way .shaped) c t r h used known ready ended owns top deep some refl heir-used heir-waits room s v))
 
   -- the releaser waits for nobody, and serves itself
   releaser-end : served after t ≡ t
@@ -230,13 +245,15 @@ module _ (st : State) (t r : ℕ) (some : 0 < resourceAt st r .waiting) (way : W
   releaser-end = apart-stays t free ∙ end-itself st t ended
     where
       free : (k w : ℕ) → Leads places (next st) k t w → taskAt st w .mode ≡ Waiting r → ⊥
-      free zero w l m = let z : nobody ≡ r = sym (ap awaited ready) ∙ ap (λ y. awaited (taskAt st y .mode)) l ∙ ap awaited m in omega (arith, present-below st r (way .ground .1))
+      free zero w l m =
+          let z : nobody ≡ r = sym (ap awaited ready) ∙ ap (λ y. awaited (taskAt st y .mode)) l ∙ ap awaited m in
+          omega (arith, present-below st r known)
       free (suc k) w l m = omega (arith, ended, l .0)
 
   others-stay : (s : ℕ) → here st s ≡ true → (served st s ≡ t → ⊥) → served after s ≡ served st s
   others-stay s u n =
       ⊎-elim (λ q. absurd (n (q .0))) (λ q. after-mid s ∙ q)
-      (T.ends-after-pass st (way .shaped) c t r h (way .ground .0) (way .ground .1) ready ended (way .ground .3) (way .ground .4) deep some refl heir-used heir-waits room s u)
+      (T.ends-after-pass st (way .shaped) c t r h used known ready ended owns top deep some refl heir-used heir-waits room s u)
 
   -- where it is the releaser's only resource, all that ended at the releaser came through it
   only-through : taskAt st t .depth ≡ 1 → (s : ℕ) → here st s ≡ true → served st s ≡ t → (s ≡ t → ⊥) → served after s ≡ h
@@ -245,9 +262,9 @@ module _ (st : State) (t r : ℕ) (some : 0 < resourceAt st r .waiting) (way : W
       (λ z. absurd (n (z ∙ q)))
       (λ z.
       let a = leads-last places (next st) (z .0) s (served st s) (z .1) in
-      let o = linked-owner st (a .0) t (here-below st t (way .ground .0)) (a .2 ∙ q) in
-      let same : awaited (taskAt st (a .0) .mode) ≡ r = sym (only-held st (way .facts) t _ (way .ground .0) (o .0) (o .1) one) ∙ way .ground .4 in
-      through-heir (z .0) s (a .0) u (a .1) (awaits-is (taskAt st (a .0) .mode) r (present-below st r (way .ground .1)) same))
+      let o = linked-owner st (a .0) t (here-below st t used) (a .2 ∙ q) in
+      let same : awaited (taskAt st (a .0) .mode) ≡ r = sym (only-held st (way .facts) t _ used (o .0) (o .1) one) ∙ top in
+      through-heir (z .0) s (a .0) u (a .1) (awaits-is (taskAt st (a .0) .mode) r (present-below st r known) same))
       (served-leads st s)
 
   -- by what leads to a waiter of the resource
@@ -276,14 +293,14 @@ module _ (st : State) (t r : ℕ) (some : 0 < resourceAt st r .waiting) (way : W
         (λ q u n. resource-now q ∙ rw (ne-eqb q r n));
     owner = after-resource st e r ∙ resource-now r ∙ rw (eq-eqb r r refl);
     heir-stack = task-is st e way h heir-used heir (task-now h ∙ rw (eq-eqb h h refl));
-    releaser-stack = task-is st e way t (way .ground .0) giver (task-now t ∙ rw (ne-eqb t h apart, eq-eqb t t refl));
+    releaser-stack = task-is st e way t used giver (task-now t ∙ rw (ne-eqb t h apart, eq-eqb t t refl));
     through = goes-through;
     apart = goes-apart;
     executors = others;
     goes-with-heir = executor-taken st e way h heir-used heir-free;
     heir-goes-on = executor-chosen st e way h heir-used heir-free;
-    stays-with-releaser = executor-kept st e way t (way .ground .0);
-    releaser-goes-on = λ f. executor-chosen st e way t (way .ground .0) f f;
+    stays-with-releaser = executor-kept st e way t used;
+    releaser-goes-on = λ f. executor-chosen st e way t used f f;
   }
 
   hands-over : taskAt st t .depth ≡ 1 → HandedOver st after t r h
@@ -299,4 +316,5 @@ pub hands-all
     : (st : State) (j r : ℕ) → Proper st (Unlock (record { 0 = j }) r) → 0 < resourceAt st r .waiting → taskAt st j .depth ≡ 1
     → HandedOver st (stepped st (Unlock (record { 0 = j }) r) .state) j r (firstWaiter (resourceAt st r))
 hands-all st j r p some one =
-    properly st (Unlock (record { 0 = j }) r) p (λ after. HandedOver st after j r (firstWaiter (resourceAt st r))) (λ way. hands-over st j r some way one)
+    properly st (Unlock (record { 0 = j }) r) p (λ after. HandedOver st after j r (firstWaiter (resourceAt st r)))
+    (λ way. hands-over st j r some way one)

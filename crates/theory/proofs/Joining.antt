@@ -35,7 +35,9 @@ use Rattle.theory.proofs.Readings.{for-running, for-served, running-for
 use Rattle.theory.proofs.Sleeping.{rested-set, rested-other, rested-still, rested-off}
 
 -- what does not see the servers does not see them rest
-rested-blind : {A : Type 0} (f : State → A) → ((ss : List Server) (u : State) → f (withServers ss u) ≡ f u) → (u : State) (t : ℕ) → f (restedEnd u t) ≡ f u
+rested-blind
+    : {A : Type 0} (f : State → A) → ((ss : List Server) (u : State) → f (withServers ss u) ≡ f u) → (u : State) (t : ℕ)
+    → f (restedEnd u t) ≡ f u
 unfolding restedEnd rested eachServer
 rested-blind f blind u t = split (suspended (taskAt u (served u t) .mode)) (λ y. rw y (blind _ u)) (λ n. rw n)
 
@@ -296,7 +298,9 @@ module _ (st : State) (t r : ℕ) (taken : owned (resourceAt st r .owner) ≡ tr
       (λ y. apart (sym (joins s u (eqb-true _ t y)) ∙ q))
       (λ m. eqb-false _ t m (sym (others-stay s u (eqb-false _ t m)) ∙ q))))
 
-  rests-behind : suspended (taskAt st j .mode) ≡ true → (s : ℕ) → Inherits after j s → (serverAt after s .phase ≡ Idle) ⊎ (serverAt after s .phase ≡ Recharging)
+  rests-behind
+      : suspended (taskAt st j .mode) ≡ true → (s : ℕ) → Inherits after j s
+      → (serverAt after s .phase ≡ Idle) ⊎ (serverAt after s .phase ≡ Recharging)
   rests-behind y s i =
       let u : here st s ≡ true = sym (after-here st e s) ∙ i .0 in
       split

@@ -29,7 +29,9 @@ outcome-refused none st e n h = holds-fails (ap (refusedBy n) h ∙ eq-eqb n n r
 outcome-refused (some m) st e n h = ap some (refused-number m n h)
 
 -- why it was refused: the state is not sound, or a test says so
-pub refused-why : (st : State) (e : Event) (n : ℕ) → stepped st e .answer ≡ Refused n → ((sound st ≡ false) × (n ≡ 1)) ⊎ ((sound st ≡ true) × (firstOf (tests st e) ≡ some n))
+pub refused-why
+    : (st : State) (e : Event) (n : ℕ) → stepped st e .answer ≡ Refused n
+    → ((sound st ≡ false) × (n ≡ 1)) ⊎ ((sound st ≡ true) × (firstOf (tests st e) ≡ some n))
 unfolding stepped
 refused-why st e n h =
     split

@@ -27,7 +27,7 @@ use Rattle.theory.proofs.Readings.{for-running, for-served, rests-at}
 
 -- "Active and Running servers serving it become Idle": all that do not recharge
 at-rest : (x : Server) → (active (x .phase) || running (x .phase)) ≡ false → recharging (x .phase) ≡ false → withPhase Idle x ≡ x
-at-rest x f g = λ i. record { phase = idles (x .phase) f g i; budget = x .budget; deadline = x .deadline; quota = x .quota; period = x .period; own = x .own; lent = x .lent; spin = x .spin }
+at-rest x f g = ap (λ p. withPhase p x) (idles (x .phase) f g)
   where
     idles : (p : Phase) → (active p || running p) ≡ false → recharging p ≡ false → Idle ≡ p
     idles Idle f g = refl
@@ -128,7 +128,9 @@ module _ (st : State) (j : ℕ) where
       stored : TaskIs (stateAfter st e) j k
       stored = task-is st e w j used k (stores j ∙ rw (eq-eqb j j refl))
 
-      stirred : (servers : ℕ → Type 0) → ((s : ℕ) → here st s ≡ true → (servers s → ⊥) → f s ≡ serverAt st s) → Rest st (stateAfter st e) (st .clock) servers (only j) nothing
+      stirred
+          : (servers : ℕ → Type 0) → ((s : ℕ) → here st s ≡ true → (servers s → ⊥) → f s ≡ serverAt st s)
+          → Rest st (stateAfter st e) (st .clock) servers (only j) nothing
       unfolding eachServer
       stirred servers same =
           rest-by st e w (st .clock) servers (only j) nothing (rw is)

@@ -61,7 +61,9 @@ module _ (st : State) (e : Event) where
   unfolding stateAfter settled
   after-resource r = refl
 
-  pub after-running : (s : ℕ) → running (serverAt (stateAfter st e) s .phase) ≡ running (serverAt st s .phase) → runningAt (stateAfter st e) s ≡ runningAt st s
+  pub after-running
+      : (s : ℕ) → running (serverAt (stateAfter st e) s .phase) ≡ running (serverAt st s .phase)
+      → runningAt (stateAfter st e) s ≡ runningAt st s
   unfolding runningAt
   after-running s p = rw (after-here s, p)
 

@@ -124,30 +124,36 @@ own-lent true true n = omega arith
 own-lent true false n = omega arith
 own-lent false b n = refl
 
-module _ (st next : State) (n : ℕ) (facts : Loose st) (same : (i : ℕ) → here next i ≡ here st i) (accounts : (i : ℕ) → here st i ≡ true → Accounts st next n i) where
-  did-grows : total next (did next) ≡ total st (did st) + n * countTo places (executing st)
-  did-grows = total-grows st next (did next) (did st) n (executing st) same past (λ i u. accounts i u .executed)
-    where
-      past : (i : ℕ) → here st i ≡ false → executing st i ≡ false
-      past i m = unheld-fails _ (λ h. holds-fails (executing-here st i h) m)
+module _
+    (st next : State)
+    (n : ℕ)
+    (facts : Loose st)
+    (same : (i : ℕ) → here next i ≡ here st i)
+    (accounts : (i : ℕ) → here st i ≡ true → Accounts st next n i)
+  where
+    did-grows : total next (did next) ≡ total st (did st) + n * countTo places (executing st)
+    did-grows = total-grows st next (did next) (did st) n (executing st) same past (λ i u. accounts i u .executed)
+      where
+        past : (i : ℕ) → here st i ≡ false → executing st i ≡ false
+        past i m = unheld-fails _ (λ h. holds-fails (executing-here st i h) m)
 
-  gave-grows : total next (gave next) ≡ total st (gave st) + n * countTo places (executing st)
-  unfolding lentTicks
-  gave-grows =
-      total-grows st next (gave next) (gave st) n (executes st) same past
-      (λ i u.
-      let a = accounts i u in
-      omega (arith, a .own, a .lent, own-lent (executes st i) (eqb (served st i) i) n))
-      ∙ ap (λ k. total st (gave st) + n * k) (executes-count st facts)
-    where
-      past : (i : ℕ) → here st i ≡ false → executes st i ≡ false
-      past i m = unheld-fails _ (λ h. holds-fails (executes-here st i h) m)
+    gave-grows : total next (gave next) ≡ total st (gave st) + n * countTo places (executing st)
+    unfolding lentTicks
+    gave-grows =
+        total-grows st next (gave next) (gave st) n (executes st) same past
+        (λ i u.
+        let a = accounts i u in
+        omega (arith, a .own, a .lent, own-lent (executes st i) (eqb (served st i) i) n))
+        ∙ ap (λ k. total st (gave st) + n * k) (executes-count st facts)
+      where
+        past : (i : ℕ) → here st i ≡ false → executes st i ≡ false
+        past i m = unheld-fails _ (λ h. holds-fails (executes-here st i h) m)
 
-  -- of one task: as many ticks as servers execute it for
-  one-grows : (t : ℕ) → here st t ≡ true → did next t ≡ did st t + n * countTo places (executesIn st t)
-  one-grows t u =
-      accounts t u .executed
-      ∙ ap (λ k. did st t + k) (sym (times-bit n (executing st t)) ∙ ap (λ k. n * k) (sym (servers-count st facts t u)))
+    -- of one task: as many ticks as servers execute it for
+    one-grows : (t : ℕ) → here st t ≡ true → did next t ≡ did st t + n * countTo places (executesIn st t)
+    one-grows t u =
+        accounts t u .executed
+        ∙ ap (λ k. did st t + k) (sym (times-bit n (executing st t)) ∙ ap (λ k. n * k) (sym (servers-count st facts t u)))
 
 -- an event, with the ticks that pass in it
 pub record Grown (st next : State) (n : ℕ) : Type 0 where
@@ -178,7 +184,9 @@ run-totals st shaped s (e ∷ es) =
     let rest = run-totals (stepped st e .state) (k .0) (k .1) es in
     (omega (arith, one .given, rest .0), omega (arith, one .done, rest .1))
 
-run-each : (st : State) → Shaped st → sound st ≡ true → (es : List Event) (t : ℕ) → here st t ≡ true → did (after move st es) t ≡ did st t + ticksFor t st es
+run-each
+    : (st : State) → Shaped st → sound st ≡ true → (es : List Event) (t : ℕ) → here st t ≡ true
+    → did (after move st es) t ≡ did st t + ticksFor t st es
 unfolding after ticksFor
 run-each st shaped s [] t u = omega arith
 run-each st shaped s (e ∷ es) t u =
@@ -213,13 +221,16 @@ module _ (tb : Table) (a : Accepted tb) (es : List Event) where
   facts = sound-facts st .holds (fresh-sound tb a) .is-loose
 
   pub ticks-are
-      : (total (reached tb es) (gave (reached tb es)) ≡ total (reached tb es) (did (reached tb es))) × (total (reached tb es) (did (reached tb es)) ≡ ticks st es)
+      : (total (reached tb es) (gave (reached tb es)) ≡ total (reached tb es) (did (reached tb es))) ×
+      (total (reached tb es) (did (reached tb es)) ≡ ticks st es)
   ticks-are =
       let g = run-totals st (fresh-shaped tb) (fresh-sound tb a) es in
       let z = nothing st facts (fresh-clock tb) in
       (omega (arith, g .0, g .1, z .0, z .1), omega (arith, g .1, z .1))
 
-  pub each-tick-once : (t : ℕ) → here (reached tb es) t ≡ true → (did (reached tb es) t ≡ ticksFor t st es) × (countTo places (executesIn (reached tb es) t) ≤ 1)
+  pub each-tick-once
+      : (t : ℕ) → here (reached tb es) t ≡ true
+      → (did (reached tb es) t ≡ ticksFor t st es) × (countTo places (executesIn (reached tb es) t) ≤ 1)
   each-tick-once t u =
       let used : here st t ≡ true = sym (run-here st es t) ∙ u in (
         omega (arith, run-each st (fresh-shaped tb) (fresh-sound tb a) es t used, none-did st facts (fresh-clock tb) t used),
