@@ -43,8 +43,8 @@ use Rattle.model.proofs.entries.both.Reads as Both
 use Rattle.model.proofs.entries.either.Reads as Either
 use Rattle.model.proofs.entries.one_if.Reads as OneIf
 
--- Any two functions from the inputs to the answer and to the arguments at exit that meet the contract agree on every input: in the answer, which has the
--- state where one is returned, and in the lent memory at exit. (κ are the lifetimes of what is lent.)
+-- Any two functions from the inputs to the answer and to the arguments at exit that meet the contract agree on every input: in the answer, which
+-- has the state where one is returned, and in the lent memory at exit. (κ are the lifetimes of what is lent.)
 abbrev pub UniqueLent
     : {L : Type 0} {A R X : L → Type 0} {M : Type 0} (Post : (κ : L) → A κ → R κ → X κ → Type 0) (memory : (κ : L) → X κ → M) → Type 0
 UniqueLent {L} {A} {R} {X} {M} Post memory =
@@ -55,11 +55,7 @@ UniqueLent {L} {A} {R} {X} {M} Post memory =
 
 -- the same where no memory is lent to be written
 abbrev pub Unique : {L : Type 0} {A R X : L → Type 0} (Post : (κ : L) → A κ → R κ → X κ → Type 0) → Type 0
-Unique {L} {A} {R} {X} Post =
-    (f g : (κ : L) (a : A κ) → R κ × X κ) →
-    ((κ : L) (a : A κ) → Post κ a (f κ a .0) (f κ a .1)) →
-    ((κ : L) (a : A κ) → Post κ a (g κ a .0) (g κ a .1)) →
-    (κ : L) (a : A κ) → f κ a .0 ≡ g κ a .0
+Unique Post = UniqueLent Post (λ κ x. tt {0})
 
 pub record EachUnique : Type 0 where
   -- The layer: one step, the soundness test, the fresh state, what a server is doing, the end of a chain.
