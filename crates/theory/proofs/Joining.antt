@@ -31,7 +31,7 @@ use Rattle.theory.proofs.Stirs.{each-at}
 use Rattle.theory.proofs.Touch.{touched-shows, touched-reads}
 use Rattle.theory.proofs.Waiting.{owner-here, link-others, ends-after-wait, new-end}
 use Rattle.theory.proofs.Steps.{Way, properly, executor-none, nobody-serves, after-here, after-server, after-resource, after-running, task-is, rest-by, same-for, executor-kept, executor-taken, executor-lost, executor-same}
-use Rattle.theory.proofs.Readings.{for-running, for-served, running-for, running-here, rests-at, spins-by}
+use Rattle.theory.proofs.Readings.{recharging-is, resting, for-running, for-served, running-for, running-here, rests-at, spins-by}
 use Rattle.theory.proofs.Sleeping.{rested-set, rested-other, rested-still, rested-off}
 
 -- what does not see the servers does not see them rest
@@ -44,18 +44,6 @@ rested-blind f blind u t = split (suspended (taskAt u (served u t) .mode)) (λ y
 links-blind : (y : ℕ) (ss : List Server) (u : State) → next (withServers ss u) y ≡ next u y
 unfolding next ownerOf here present
 links-blind y ss u = refl
-
-is-recharging : (p : Phase) → recharging p ≡ true → p ≡ Recharging
-is-recharging Idle h = holds-fails h refl
-is-recharging Active h = holds-fails h refl
-is-recharging Running h = holds-fails h refl
-is-recharging Recharging h = refl
-
-idle-rests : (p : Phase) → (recharging p ≡ true) ⊎ (idle p ≡ true) → (active p || running p) ≡ false
-idle-rests Idle h = refl
-idle-rests Active h = ⊎-elim (λ r. sym r) (λ i. sym i) h
-idle-rests Running h = ⊎-elim (λ r. sym r) (λ i. sym i) h
-idle-rests Recharging h = refl
 
 module _ (st : State) (t r : ℕ) (taken : owned (resourceAt st r .owner) ≡ true) (w : Way st (Lock (record { 0 = t }) r)) where
   abbrev o : ℕ
@@ -241,7 +229,7 @@ module _ (st : State) (t r : ℕ) (taken : owned (resourceAt st r .owner) ≡ tr
         let q : served st s ≡ j = eqb-true _ j y in
         at
         ∙ rested-still mid j s mid-used
-        (idle-rests (serverAt st s .phase) (⊎-elim (λ c. inl c) (λ i. inr (i .1 (ap (λ z. suspended (taskAt st z .mode)) q ∙ sleeps))) (w .facts .idles s u))))
+        (resting (serverAt st s .phase) (⊎-elim (λ c. inl c) (λ i. inr (i .1 (ap (λ z. suspended (taskAt st z .mode)) q ∙ sleeps))) (w .facts .idles s u))))
         (λ m.
         at ∙ rested-other mid j s mid-used (λ q. eqb-false _ j m (sym (others-stay s u n) ∙ after-mid s ∙ q .0)))
 
@@ -305,7 +293,7 @@ module _ (st : State) (t r : ℕ) (taken : owned (resourceAt st r .owner) ≡ tr
       let u : here st s ≡ true = sym (after-here st e s) ∙ i .0 in
       split
       (recharging (serverAt st s .phase))
-      (λ c. inr (ap (λ (x : Server). x .phase) (after-server st e s ∙ recharges y s u c) ∙ is-recharging (serverAt st s .phase) c))
+      (λ c. inr (ap (λ (x : Server). x .phase) (after-server st e s ∙ recharges y s u c) ∙ recharging-is (serverAt st s .phase) c))
       (λ c. inl (ap (λ (x : Server). x .phase) (after-server st e s ∙ rests y s u (i .1) c)))
 
   behind : LockedBehind st after t r j

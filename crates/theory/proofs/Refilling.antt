@@ -14,14 +14,8 @@ use Rattle.model.specs.Events.{refilled, rechargedPhase, recharged}
 use Rattle.model.specs.Step.{stateAfter, stepped}
 use Rattle.theory.specs.Rules.{Proper, ExecutorsStay, nothing, Recharged}
 use Rattle.theory.proofs.Steps.{Way, properly, ends-stay}
-use Rattle.theory.proofs.Readings.{for-running, rests-at}
+use Rattle.theory.proofs.Readings.{recharging-is, for-running, rests-at}
 use Rattle.theory.proofs.Storing.{stored-server, stored-rest, stored-executor}
-
-recharging-off : (p : Phase) → recharging p ≡ true → running p ≡ false
-recharging-off Idle h = refl
-recharging-off Active h = refl
-recharging-off Running h = sym h
-recharging-off Recharging h = refl
 
 module _ (st : State) (s : ℕ) (w : Way st (Recharge (record { 0 = s }))) where
   abbrev e : Event
@@ -47,7 +41,7 @@ module _ (st : State) (s : ℕ) (w : Way st (Recharge (record { 0 = s }))) where
   others u v n =
       stored-executor st e w s x (w .ground .0) refl tt u v
       (unheld-fails _ (λ f. holds-fails (for-running after u s f) (rests-at after s (ap (λ (z : Server). running (z .phase)) full ∙ resting)))
-      ∙ sym (unheld-fails _ (λ f. holds-fails (for-running st u s f) (rests-at st s (recharging-off (serverAt st s .phase) (w .ground .1))))))
+      ∙ sym (unheld-fails _ (λ f. holds-fails (for-running st u s f) (rests-at st s (ap running (recharging-is (serverAt st s .phase) (w .ground .1)))))))
 
   shows : Recharged st after s
   unfolding recharged rechargedPhase

@@ -1,6 +1,7 @@
 -- Suspend and wake: the whole set rests, the whole set is Active again. Assumes nothing.
 use mathlib.Core.Path.{_≡_, refl, sym, ap, _∙_}
 use mathlib.Core.Bool.{Bool, true, false, _||_}
+use mathlib.Core.Logic.{inl}
 use Prim.Native.Nat.{ℕ}
 use native.Mathlib.Omega.{arith}
 use lib.Dec.{eqb}
@@ -23,7 +24,7 @@ use Rattle.model.proofs.Chain.{here-below}
 use Rattle.theory.specs.Rules.{Proper, Rest, ExecutorsStay, TaskIs, only, nothing, Slept, Woken}
 use Rattle.theory.proofs.Stirs.{each-at}
 use Rattle.theory.proofs.Steps.{Way, properly, after-server, task-is, rest-by, ends-stay, same-for, executor-lost, executor-same, executors-stay}
-use Rattle.theory.proofs.Readings.{for-running, for-served, rests-at}
+use Rattle.theory.proofs.Readings.{idle-is, resting, for-running, for-served, rests-at}
 
 -- "Active and Running servers serving it become Idle": all that do not recharge
 at-rest : (x : Server) → (active (x .phase) || running (x .phase)) ≡ false → recharging (x .phase) ≡ false → withPhase Idle x ≡ x
@@ -34,12 +35,6 @@ at-rest x f g = ap (λ p. withPhase p x) (idles (x .phase) f g)
     idles Active f g = holds-fails refl f
     idles Running f g = holds-fails refl f
     idles Recharging f g = holds-fails refl g
-
-recharges-not : (p : Phase) → recharging p ≡ true → (active p || running p) ≡ false
-recharges-not Idle h = refl
-recharges-not Active h = sym h
-recharges-not Running h = sym h
-recharges-not Recharging h = refl
 
 module _ (st : State) (t s : ℕ) (used : here st s ≡ true) where
   pub rested-set : served st s ≡ t → recharging (serverAt st s .phase) ≡ false → restedServer st t s ≡ withPhase Idle (serverAt st s)
@@ -61,7 +56,7 @@ module _ (st : State) (t s : ℕ) (used : here st s ≡ true) where
       (eqb (served st s) t)
       (λ y.
       let r : recharging (serverAt st s .phase) ≡ true = held-else (recharging (serverAt st s .phase)) (λ f. n (eqb-true _ t y, f)) in
-      rested-still (recharges-not (serverAt st s .phase) r))
+      rested-still (resting (serverAt st s .phase) (inl r)))
       (λ m. split (active (serverAt st s .phase) || running (serverAt st s .phase)) (λ y. rw (used, y, m)) rested-still)
     where
       held-else : (b : Bool) → (b ≡ false → ⊥) → b ≡ true
@@ -102,15 +97,9 @@ module _ (st : State) (t s : ℕ) (used : here st s ≡ true) where
       (λ i.
       split
       (eqb (served st s) t)
-      (λ y. rw (used, i, y) (sym (idle-off (serverAt st s .phase) i)))
+      (λ y. rw (used, i, y) (sym (ap running (idle-is (serverAt st s .phase) i))))
       (λ n. rw (used, i, n)))
       (λ n. rw (used, n))
-    where
-      idle-off : (p : Phase) → idle p ≡ true → running p ≡ false
-      idle-off Idle h = refl
-      idle-off Active h = refl
-      idle-off Running h = sym h
-      idle-off Recharging h = refl
 
 module _ (st : State) (j : ℕ) where
   -- an event that makes every server anew and stores task j
@@ -167,13 +156,13 @@ module _ (st : State) (j : ℕ) where
     abbrev l : Task
     l = withMode Suspended (taskAt st j)
 
-    resting : (s : ℕ) → here st s ≡ true → serverAt (stateAfter st d) s ≡ restedServer st j s
+    at-rest-now : (s : ℕ) → here st s ≡ true → serverAt (stateAfter st d) s ≡ restedServer st j s
     unfolding slept rested
-    resting s u = after-server st d s ∙ anew d w (restedServer st j) l (w .ground .0) refl s u
+    at-rest-now s u = after-server st d s ∙ anew d w (restedServer st j) l (w .ground .0) refl s u
 
     -- a server of another set is as it was
     apart : (s : ℕ) → here st s ≡ true → (served st s ≡ j → ⊥) → serverAt (stateAfter st d) s ≡ serverAt st s
-    apart s u n = resting s u ∙ rested-other st j s u (λ q. n (q .0))
+    apart s u n = at-rest-now s u ∙ rested-other st j s u (λ q. n (q .0))
 
     gone : (s : ℕ) → here st s ≡ true → runningFor (stateAfter st d) j s ≡ false
     gone s u =
@@ -181,7 +170,7 @@ module _ (st : State) (j : ℕ) where
         (λ f.
         holds-fails (for-running (stateAfter st d) j s f)
         (rests-at (stateAfter st d) s
-        (ap (λ (x : Server). running (x .phase)) (resting s u) ∙ rested-off st j s u (sym (ends-stay st d w tt s u) ∙ for-served (stateAfter st d) j s f))))
+        (ap (λ (x : Server). running (x .phase)) (at-rest-now s u) ∙ rested-off st j s u (sym (ends-stay st d w tt s u) ∙ for-served (stateAfter st d) j s f))))
 
     others : ExecutorsStay st (stateAfter st d) (only j)
     others t u n =
@@ -200,7 +189,7 @@ module _ (st : State) (j : ℕ) where
     sleeps-all = record {
       rest =
           stirred d w (restedServer st j) l (w .ground .0) refl (λ s. (served st s ≡ j) × (recharging (serverAt st s .phase) ≡ false)) (rested-other st j);
-      set = λ s i y. resting s (i .0) ∙ rested-set st j s (i .0) (i .1) y;
+      set = λ s i y. at-rest-now s (i .0) ∙ rested-set st j s (i .0) (i .1) y;
       sleeps = stored d w (restedServer st j) l (w .ground .0) refl;
       ends = ends-stay st d w tt;
       executors = others;
