@@ -1,3 +1,5 @@
 pub mod Demand1
-pub mod Paper
+pub mod Demand2
 pub mod Demand3
+pub mod Paper
+pub mod Unique

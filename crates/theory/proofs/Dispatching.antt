@@ -1,78 +1,102 @@
--- Dispatch: the server spins where its task executes already, and executes it where not. Assumes nothing.
-use mathlib.Core.Path.{_≡_, sym, ap, _∙_}
-use mathlib.Core.Bool.{true, false, not, _&&_}
+-- Dispatch: the server spins where the task that it serves executes already, and executes it where not. Assumes nothing.
+use mathlib.Core.Path.{_≡_, refl, sym, ap, _∙_}
+use mathlib.Core.Bool.{true, false}
 use Prim.Native.Nat.{ℕ}
 use lib.Dec.{eqb}
 use borrow.Author.Tests.{eqb-true, eqb-false}
-use Rattle.laws.proofs.Cases.{split, holds-fails}
+use Rattle.laws.proofs.Cases.{split, holds-fails, unheld-fails}
 use Rattle.model.specs.declared.Phase.the-variants.{Running}
-use Rattle.model.specs.declared.ServerNo.{ServerNo}
 use Rattle.model.specs.declared.Server.{Server}
 use Rattle.model.specs.declared.State.{State}
 use Rattle.model.specs.declared.Event.{Event}
 use Rattle.model.specs.declared.Event.the-variants.{Dispatch}
 use Rattle.model.specs.State.{serverAt, here, running, served, runningAt, runningFor, executorOf, executing, executes}
-use Rattle.model.specs.Shape.{Shaped}
-use Rattle.model.specs.Step.{stateAfter}
+use Rattle.model.specs.Events.{withPhase, phased}
+use Rattle.model.specs.Step.{stateAfter, stepped}
 use Rattle.model.proofs.Chain.{served-here}
-use Rattle.model.proofs.Sound.{Loose}
+use Rattle.theory.specs.Runs.{spins}
+use Rattle.theory.specs.Rules.{Proper, ExecutorsStay, only, Dispatched}
 use Rattle.model.proofs.Variants.{active-is}
 use Rattle.theory.proofs.Executing.{runs-for}
-use Rattle.model.proofs.Grounds.{Grounds}
 use Rattle.theory.proofs.Soundness.{served-executes}
-use Rattle.theory.proofs.Executing.{served-kept}
-use Rattle.theory.proofs.Steps.{after-here, after-server, after-for, executor-kept, executor-serves, executor-some}
-use Rattle.theory.proofs.Readings.{for-running, running-for, runs-at, rests-at, spins-by, executes-by}
-use Rattle.theory.proofs.Phased.{phased-self, phased-other}
+use Rattle.theory.proofs.Steps.{Way, properly, after-here, ends-stay, executor-kept, executor-serves, executor-some}
+use Rattle.theory.proofs.Readings.{for-running, for-served, for-here, running-for, runs-at, rests-at, spins-by, executes-by}
+use Rattle.theory.proofs.Storing.{stored-server, stored-rest, stored-for, stored-executor}
 
-module _ (st : State) (shaped : Shaped st) (facts : Loose st) (d : ServerNo) (g : Grounds st (Dispatch d)) where
-  abbrev s : ℕ
-  s = d .0
-
+module _ (st : State) (s : ℕ) (w : Way st (Dispatch (record { 0 = s }))) where
   abbrev e : Event
-  e = Dispatch d
+  e = Dispatch (record { 0 = s })
 
   abbrev after : State
   after = stateAfter st e
 
+  abbrev x : Server
+  x = withPhase Running (serverAt st s)
+
   abbrev t : ℕ
   t = served st s
 
-  pub dispatch-phase : serverAt after s .phase ≡ Running
-  dispatch-phase = ap (λ (x : Server). x .phase) (after-server st e s) ∙ phased-self st shaped facts Running s (g .0)
+  runs : serverAt after s ≡ x
+  unfolding phased
+  runs = stored-server st e w s x (w .ground .0) refl
 
-  dispatch-for : (x u : ℕ) → (u ≡ s → ⊥) → runningFor after x u ≡ runningFor st x u
-  dispatch-for x u n =
-      after-for st e x u (served-kept st shaped facts e g tt u) (ap (λ (x : Server). x .phase) (after-server st e u ∙ phased-other st shaped facts Running s (g .0) u n))
+  stored : (u i : ℕ) → here st i ≡ true → (i ≡ s → ⊥) → runningFor after u i ≡ runningFor st u i
+  unfolding phased
+  stored = stored-for st e w s x (w .ground .0) refl tt
 
-  dispatch-runs : runningAt after s ≡ true
-  dispatch-runs = runs-at after s (after-here st e s ∙ g .0) dispatch-phase
+  runs-now : runningAt after s ≡ true
+  runs-now = runs-at after s (after-here st e s ∙ w .ground .0) (ap (λ (z : Server). z .phase) runs)
 
-  dispatch-end : served after s ≡ t
-  dispatch-end = served-kept st shaped facts e g tt s
+  end : served after s ≡ t
+  end = ends-stay st e w tt s (w .ground .0)
 
   target-here : here st t ≡ true
-  target-here = served-here st s (g .0)
+  target-here = served-here st s (w .ground .0)
 
-  was-off : runningAt st s ≡ true → ⊥
-  was-off h = holds-fails h (rests-at st s (ap running (active-is (serverAt st s .phase) (g .1))))
+  was-off : runningAt st s ≡ false
+  was-off = rests-at st s (ap running (active-is (serverAt st s .phase) (w .ground .1)))
+
+  -- tasks that it does not serve see no difference
+  others : ExecutorsStay st after (only t)
+  unfolding phased
+  others u v n =
+      stored-executor st e w s x (w .ground .0) refl tt u v
+      (unheld-fails _ (λ f. n (sym (for-served after u s f) ∙ end)) ∙ sym (unheld-fails _ (λ f. holds-fails (for-running st u s f) was-off)))
 
   module _ (y : executing st t ≡ true) where
-    executor-apart : executorOf st t ≡ s → ⊥
-    executor-apart q = was-off (ap (runningAt st) (sym q) ∙ for-running st t _ (runs-for st facts t y))
+    apart : executorOf st t ≡ s → ⊥
+    apart q = holds-fails (ap (runningAt st) (sym q) ∙ for-running st t _ (runs-for st (w .facts) t y)) was-off
 
-    pub dispatch-kept : executorOf after t ≡ executorOf st t
-    dispatch-kept = executor-kept st e shaped facts g t target-here (dispatch-for t _ executor-apart ∙ runs-for st facts t y)
+    kept : executorOf after t ≡ executorOf st t
+    kept = let f = runs-for st (w .facts) t y in executor-kept st e w t target-here (stored t _ (for-here st t _ f) apart ∙ f)
 
-    pub dispatch-spins : (runningAt after s && not (executes after s)) ≡ true
-    dispatch-spins = spins-by after s dispatch-runs (λ q. executor-apart (sym dispatch-kept ∙ ap (executorOf after) (sym dispatch-end) ∙ q))
+    spins-now : spins after s ≡ true
+    spins-now = spins-by after s runs-now (λ q. apart (sym kept ∙ ap (executorOf after) (sym end) ∙ q))
 
-  pub dispatch-executes : executing st t ≡ false → executes after s ≡ true
-  dispatch-executes n =
-      let f = executor-serves st e shaped facts g t target-here (executor-some st e shaped facts g t target-here s (running-for after t s dispatch-runs dispatch-end)) in
-      executes-by after s dispatch-runs
-      (ap (executorOf after) dispatch-end
-      ∙ split
-      (eqb (executorOf after t) s)
-      (λ y. eqb-true _ s y)
-      (λ m. holds-fails (served-executes st facts t _ target-here (sym (dispatch-for t _ (eqb-false _ s m)) ∙ f)) n))
+  module _ (n : executing st t ≡ false) where
+    taken : executorOf after t ≡ s
+    taken =
+        let f = executor-serves st e w t target-here (executor-some st e w t target-here s (running-for after t s runs-now end)) in
+        split
+        (eqb (executorOf after t) s)
+        (λ y. eqb-true _ s y)
+        (λ m.
+        let here-too : here st (executorOf after t) ≡ true = sym (after-here st e _) ∙ for-here after t _ f in
+        holds-fails (served-executes st (w .facts) t _ target-here (sym (stored t _ here-too (eqb-false _ s m)) ∙ f)) n)
+
+    executes-now : executes after s ≡ true
+    executes-now = executes-by after s runs-now (ap (executorOf after) end ∙ taken)
+
+  shows : Dispatched st after s
+  unfolding phased
+  shows = record {
+    rest = stored-rest st e w s x (w .ground .0) refl;
+    runs = runs;
+    ends = ends-stay st e w tt;
+    executors = others;
+    spins-where-executing = λ y. (spins-now y, kept y);
+    executes-where-not = λ n. (executes-now n, taken n);
+  }
+
+pub dispatched : (st : State) (s : ℕ) → Proper st (Dispatch (record { 0 = s })) → Dispatched st (stepped st (Dispatch (record { 0 = s })) .state) s
+dispatched st s p = properly st (Dispatch (record { 0 = s })) p (λ after. Dispatched st after s) (shows st s)

@@ -2,52 +2,94 @@
 use mathlib.Core.Path.{_≡_, refl, ap, _∙_}
 use mathlib.Core.Bool.{true, false}
 use Prim.Native.Nat.{ℕ}
-use borrow.Author.Tests.{eq-eqb}
+use borrow.Author.Tests.{eq-eqb, ne-eqb}
 use Rattle.model.specs.declared.Owner.the-variants.{Nobody, By}
-use Rattle.model.specs.declared.TaskNo.{TaskNo}
 use Rattle.model.specs.declared.Server.{Server}
+use Rattle.model.specs.declared.Task.{Task}
 use Rattle.model.specs.declared.Resource.{Resource}
 use Rattle.model.specs.declared.State.{State}
 use Rattle.model.specs.declared.Event.{Event}
 use Rattle.model.specs.declared.Event.the-variants.{Lock, Unlock}
-use Rattle.model.specs.State.{serverAt, taskAt, resourceAt, here, owned, ownerNo, executorOf}
-use Rattle.model.specs.Shape.{Shaped}
-use Rattle.model.specs.Events.{pushed, popped, withOwner, granted, locked, freed, unlocked}
-use Rattle.model.specs.Step.{stateAfter}
-use Rattle.model.proofs.Sound.{Loose}
-use Rattle.theory.proofs.StacksAndQueues.{touched-reads}
-use Rattle.model.proofs.Grounds.{Grounds}
-use Rattle.theory.proofs.Executing.{Quiet, served-kept}
-use Rattle.theory.proofs.Steps.{after-server, after-resource, after-for, executor-same}
+use Rattle.model.specs.State.{taskAt, resourceAt, here, present, running, owned}
+use Rattle.model.specs.Events.{pushed, popped, withOwner, granted, locked, freed, unlocked, changed}
+use Rattle.model.specs.Step.{stateAfter, stepped}
+use Rattle.theory.specs.Rules.{Proper, Rest, ExecutorsStay, TaskIs, only, nothing, Granted, Freed}
+use Rattle.theory.proofs.StacksAndQueues.{touched, touched-shows, touched-reads}
+use Rattle.theory.proofs.Executing.{Quiet}
+use Rattle.theory.proofs.Steps.{Way, properly, after-server, after-resource, task-is, rest-by, ends-stay, executors-stay}
 
-module _ (st : State) (shaped : Shaped st) (facts : Loose st) where
-  -- servers and ends as before, the same executors
-  pub quiet-executor
-      : (e : Event) (g : Grounds st e) → Quiet st e → ((s : ℕ) → serverAt (stateAfter st e) s ≡ serverAt st s)
-      → (t : ℕ) → here st t ≡ true → executorOf (stateAfter st e) t ≡ executorOf st t
-  quiet-executor e g q same t u =
-      executor-same st e shaped facts g t u
-      (λ s. after-for st e t s (served-kept st shaped facts e g q s) (ap (λ (x : Server). x .phase) (same s)))
+-- an event that stores task t and resource r, and after which nobody waits who did not
+module _ (st : State) (e : Event) (w : Way st e) (t r : ℕ) (k : Task) (x : Resource) (is : changed st e ≡ touched st t r k x) where
+  module _ (used : here st t ≡ true) (known : present st r ≡ true) where
+    entry : resourceAt (stateAfter st e) r ≡ x
+    entry = after-resource st e r ∙ ap (λ z. resourceAt z r) is ∙ touched-reads st (w .shaped) t r used known k x (λ z. z) r ∙ rw (eq-eqb r r refl)
 
-  module _ (t : TaskNo) (r : ℕ) where
-    module _ (g : Grounds st (Lock t r)) (free : owned (resourceAt st r .owner) ≡ false) where
-      pub grant-server : (s : ℕ) → serverAt (stateAfter st (Lock t r)) s ≡ serverAt st s
-      unfolding locked granted
-      grant-server s = after-server st (Lock t r) s ∙ rw free
+    stored : TaskIs (stateAfter st e) t k
+    stored = task-is st e w t used k (ap (λ z. taskAt z t) is ∙ touched-shows st (w .shaped) t r used known k x (λ z. z) t ∙ rw (eq-eqb t t refl))
 
-      pub grant-owner : ownerNo (resourceAt (stateAfter st (Lock t r)) r .owner) ≡ t .0
-      unfolding locked granted
-      grant-owner =
-          ap (λ (x : Resource). ownerNo (x .owner)) (after-resource st (Lock t r) r)
-          ∙ rw free (touched-reads st shaped (t .0) r (g .0) (g .1) (pushed r (taskAt st (t .0))) (withOwner (By (record { 0 = t .0 })) (resourceAt st r)) (λ (x : Resource). ownerNo (x .owner)) r ∙ rw (eq-eqb r r refl))
+    rest : Rest st (stateAfter st e) (st .clock) nothing (only t) (only r)
+    rest =
+        rest-by st e w (st .clock) nothing (only t) (only r) (rw is)
+        (λ s u n. rw is)
+        (λ i u n. ap (λ z. taskAt z i) is ∙ touched-shows st (w .shaped) t r used known k x (λ z. z) i ∙ rw (ne-eqb i t n))
+        (λ q u n. ap (λ z. resourceAt z q) is ∙ touched-reads st (w .shaped) t r used known k x (λ z. z) q ∙ rw (ne-eqb q r n))
 
-    module _ (g : Grounds st (Unlock t r)) (empty : resourceAt st r .waiting ≡ 0) where
-      pub free-server : (s : ℕ) → serverAt (stateAfter st (Unlock t r)) s ≡ serverAt st s
-      unfolding unlocked freed
-      free-server s = after-server st (Unlock t r) s ∙ rw (eq-eqb _ 0 empty)
+  goes-on : Quiet st e → ExecutorsStay st (stateAfter st e) nothing
+  goes-on q = executors-stay st e w q (λ s u. ap (λ (z : Server). running (z .phase)) (after-server st e s) ∙ rw is)
 
-      pub free-owner : owned (resourceAt (stateAfter st (Unlock t r)) r .owner) ≡ false
-      unfolding unlocked freed
-      free-owner =
-          ap (λ (x : Resource). owned (x .owner)) (after-resource st (Unlock t r) r)
-          ∙ rw (eq-eqb _ 0 empty) (touched-reads st shaped (t .0) r (g .0) (g .1) (popped (taskAt st (t .0))) (withOwner Nobody (resourceAt st r)) (λ (x : Resource). owned (x .owner)) r ∙ rw (eq-eqb r r refl))
+module _ (st : State) (t r : ℕ) where
+  module _ (free : owned (resourceAt st r .owner) ≡ false) (w : Way st (Lock (record { 0 = t }) r)) where
+    abbrev e : Event
+    e = Lock (record { 0 = t }) r
+
+    abbrev k : Task
+    k = pushed r (taskAt st t)
+
+    abbrev x : Resource
+    x = withOwner (By (record { 0 = t })) (resourceAt st r)
+
+    is-granted : changed st e ≡ touched st t r k x
+    unfolding locked granted
+    is-granted = rw free
+
+    grants : Granted st (stateAfter st e) t r
+    grants = record {
+      rest = rest st e w t r k x is-granted (w .ground .0) (w .ground .1);
+      owner = entry st e w t r k x is-granted (w .ground .0) (w .ground .1);
+      stack = stored st e w t r k x is-granted (w .ground .0) (w .ground .1);
+      ends = ends-stay st e w free;
+      executors = goes-on st e w t r k x is-granted free;
+    }
+
+  module _ (empty : resourceAt st r .waiting ≡ 0) (w : Way st (Unlock (record { 0 = t }) r)) where
+    abbrev d : Event
+    d = Unlock (record { 0 = t }) r
+
+    abbrev l : Task
+    l = popped (taskAt st t)
+
+    abbrev y : Resource
+    y = withOwner Nobody (resourceAt st r)
+
+    is-freed : changed st d ≡ touched st t r l y
+    unfolding unlocked freed
+    is-freed = rw (eq-eqb _ 0 empty)
+
+    frees : Freed st (stateAfter st d) t r
+    frees = record {
+      rest = rest st d w t r l y is-freed (w .ground .0) (w .ground .1);
+      owner = entry st d w t r l y is-freed (w .ground .0) (w .ground .1);
+      stack = stored st d w t r l y is-freed (w .ground .0) (w .ground .1);
+      ends = ends-stay st d w empty;
+      executors = goes-on st d w t r l y is-freed empty;
+    }
+
+pub grants-free
+    : (st : State) (t r : ℕ) → Proper st (Lock (record { 0 = t }) r) → owned (resourceAt st r .owner) ≡ false
+    → Granted st (stepped st (Lock (record { 0 = t }) r) .state) t r
+grants-free st t r p free = properly st (Lock (record { 0 = t }) r) p (λ after. Granted st after t r) (grants st t r free)
+
+pub frees-last
+    : (st : State) (j r : ℕ) → Proper st (Unlock (record { 0 = j }) r) → resourceAt st r .waiting ≡ 0
+    → Freed st (stepped st (Unlock (record { 0 = j }) r) .state) j r
+frees-last st j r p empty = properly st (Unlock (record { 0 = j }) r) p (λ after. Freed st after j r) (frees st j r empty)

@@ -1,39 +1,42 @@
 -- Unlock with a queue: what reached the releaser through the resource goes to the heir, the rest stays, and who executes. Assumes nothing.
 use mathlib.Core.Path.{_≡_, refl, sym, ap, _∙_}
 use mathlib.Core.Bool.{Bool, true, false, _&&_}
-use mathlib.Core.Logic.{_⊎_, ⊎-elim}
+use mathlib.Core.Logic.{_⊎_, inl, inr, ⊎-elim}
 use Prim.Native.Nat.{ℕ, zero, suc, _<_, _≤_}
 use native.Mathlib.Omega.{arith}
 use lib.Dec.{ltb, eqb}
-use lib.ListN.{getD}
+use lib.ListN.{getD, set, length-set}
 use borrow.Author.Tests.{eqb-true, eq-eqb, ne-eqb, le-ltb}
-use Rattle.laws.specs.Tests.{bit}
+use Rattle.laws.specs.Tests.{if_then_else_, bit}
 use Rattle.laws.specs.Loops.{countTo}
 use Rattle.laws.specs.Links.{Leads}
 use Rattle.laws.proofs.Cases.{split, holds-fails, unheld-fails, and-left, and-right, and-both}
 use Rattle.laws.proofs.Count.{count-zero}
+use Rattle.laws.proofs.Lists.{getD-set}
 use Rattle.model.specs.declared.Mode.{Mode}
 use Rattle.model.specs.declared.Mode.the-variants.{Suspended, Ready, Waiting}
-use Rattle.model.specs.declared.TaskNo.{TaskNo}
+use Rattle.model.specs.declared.Owner.the-variants.{By}
+use Rattle.model.specs.declared.Server.{Server}
+use Rattle.model.specs.declared.Task.{Task}
 use Rattle.model.specs.declared.Resource.{Resource}
 use Rattle.model.specs.declared.State.{State}
 use Rattle.model.specs.declared.Event.{Event}
 use Rattle.model.specs.declared.Event.the-variants.{Unlock}
-use Rattle.model.specs.State.{places, nobody, taskAt, resourceAt, here, present, awaited, ownerNo, ownerOf, next, served, runningFor, executorOf, executing}
+use Rattle.model.specs.State.{places, nobody, noTask, serverAt, taskAt, resourceAt, here, present, running, awaited, ownerNo, ownerOf, next, served, runningFor, executorOf, executing}
 use Rattle.model.specs.Sound.{heldAt}
-use Rattle.model.specs.Shape.{Shaped}
-use Rattle.model.specs.Events.{firstWaiter, passed, unlocked, changed, acting}
-use Rattle.model.specs.Step.{topOf, stateAfter}
+use Rattle.model.specs.Events.{withMode, withOwner, pushed, popped, dequeued, firstWaiter, passed, unlocked, changed, acting}
+use Rattle.model.specs.Step.{topOf, stateAfter, stepped}
 use Rattle.model.proofs.Chain.{here-below, present-below, next-here, linked-here, served-walk, end-itself, same-served}
 use Rattle.model.proofs.Sound.{Loose}
 use Rattle.model.proofs.RuleH.{settled-next}
 use Rattle.model.proofs.Room.{stack-held, first-here, first-waits}
+use Rattle.theory.specs.Rules.{Proper, Through, ExecutorsStay, only, nothing, Passed, HandedOver}
 use Rattle.theory.proofs.Calm.{Calm, loose-calm}
 use Rattle.theory.proofs.Executing.{runs-ready, runs-ended}
 use Rattle.theory.proofs.Passing as T
-use Rattle.model.proofs.Grounds.{Grounds}
 use Rattle.theory.proofs.Soundness.{heir-room}
-use Rattle.theory.proofs.Steps.{executor-none, nobody-serves, after-resource, executor-kept, executor-taken}
+use Rattle.theory.proofs.Steps.{Way, properly, executor-none, nobody-serves, after-server, after-resource, task-is, rest-by, same-for, executor-kept, executor-taken, executor-chosen, executor-same}
+use Rattle.theory.proofs.Readings.{for-served}
 use Rattle.theory.proofs.Lambda.{served-leads}
 use Rattle.theory.proofs.Through.{leads-last, through-end, apart-end}
 
@@ -50,7 +53,9 @@ module _ (st : State) where
   leads-here (suc k) x y u l = leads-here k (next st x) y (next-here st x (l .0)) (l .1)
 
   -- a link goes from a task to the owner of what it awaits
-  linked-owner : (w t : ℕ) → t < places → next st w ≡ t → (present st (awaited (taskAt st w .mode)) ≡ true) × (ownerNo (resourceAt st (awaited (taskAt st w .mode)) .owner) ≡ t)
+  linked-owner
+      : (w t : ℕ) → t < places → next st w ≡ t
+      → (present st (awaited (taskAt st w .mode)) ≡ true) × (ownerNo (resourceAt st (awaited (taskAt st w .mode)) .owner) ≡ t)
   unfolding next ownerOf
   linked-owner w t l e =
       let q : ℕ = awaited (taskAt st w .mode) in
@@ -73,20 +78,18 @@ module _ (st : State) where
     where
       off : eqb (getD (taskAt st t .held) 0 0) q ≡ false → (j : ℕ) → heldAt st t q j ≡ false
       off n zero = unheld-fails _ (λ h. holds-fails (and-right (ltb 0 (taskAt st t .depth)) _ h) n)
-      off n (suc j) = unheld-fails _ (λ h. holds-fails (and-left (ltb (suc j) (taskAt st t .depth)) _ h) (le-ltb (suc j) (taskAt st t .depth) (omega arith)))
+      off n (suc j) =
+          unheld-fails _ (λ h. holds-fails (and-left (ltb (suc j) (taskAt st t .depth)) _ h) (le-ltb (suc j) (taskAt st t .depth) (omega arith)))
 
       none : eqb (getD (taskAt st t .held) 0 0) q ≡ false → countTo places (heldAt st t q) ≡ 0
       none n = count-zero places (heldAt st t q) (λ j l. off n j)
 
-module _ (st : State) (shaped : Shaped st) (facts : Loose st) (releaser : TaskNo) (r : ℕ) (g : Grounds st (Unlock releaser r)) (some : 0 < resourceAt st r .waiting) where
-  abbrev t : ℕ
-  t = releaser .0
-
+module _ (st : State) (t r : ℕ) (some : 0 < resourceAt st r .waiting) (way : Way st (Unlock (record { 0 = t }) r)) where
   abbrev h : ℕ
   h = firstWaiter (resourceAt st r)
 
   abbrev e : Event
-  e = Unlock releaser r
+  e = Unlock (record { 0 = t }) r
 
   abbrev mid : State
   mid = passed st t r h
@@ -95,25 +98,37 @@ module _ (st : State) (shaped : Shaped st) (facts : Loose st) (releaser : TaskNo
   after = stateAfter st e
 
   abbrev c : Calm st
-  c = loose-calm st facts
+  c = loose-calm st (way .facts)
+
+  used : here st t ≡ true
+  used = way .ground .0
+
+  known : present st r ≡ true
+  known = way .ground .1
+
+  owns : ownerNo (resourceAt st r .owner) ≡ t
+  owns = way .ground .3
+
+  top : topOf st t ≡ r
+  top = way .ground .4
 
   ready : taskAt st t .mode ≡ Ready
-  ready = runs-ready st facts t (g .2)
+  ready = runs-ready st (way .facts) t (way .ground .2)
 
   ended : places ≤ next st t
-  ended = runs-ended st facts t (g .2)
+  ended = runs-ended st (way .facts) t (way .ground .2)
 
   deep : 0 < taskAt st t .depth
-  deep = stack-held st facts t r (g .0) (g .1) (g .3)
+  deep = stack-held st (way .facts) t r used known owns
 
-  pub heir-used : here st h ≡ true
-  heir-used = first-here st facts r (g .1) some
+  heir-used : here st h ≡ true
+  heir-used = first-here st (way .facts) r known some
 
   heir-waits : awaited (taskAt st h .mode) ≡ r
-  heir-waits = first-waits st facts r (g .1) some
+  heir-waits = first-waits st (way .facts) r known some
 
   room : taskAt st h .depth < places
-  room = heir-room st shaped facts releaser r g some
+  room = heir-room st (way .shaped) (way .facts) (record { 0 = t }) r (way .ground) some
 
   abbrev wants : ℕ → Bool
   wants y = here st y && eqb (awaited (taskAt st y .mode)) r
@@ -122,7 +137,7 @@ module _ (st : State) (shaped : Shaped st) (facts : Loose st) (releaser : TaskNo
   wants-by w u m = and-both (here st w) _ u (eq-eqb _ r (ap awaited m))
 
   by-wants : (w : ℕ) → wants w ≡ true → taskAt st w .mode ≡ Waiting r
-  by-wants w v = awaits-is (taskAt st w .mode) r (present-below st r (g .1)) (eqb-true _ r (and-right (here st w) _ v))
+  by-wants w v = awaits-is (taskAt st w .mode) r (present-below st r known) (eqb-true _ r (and-right (here st w) _ v))
 
   changed-is : changed st e ≡ mid
   unfolding unlocked
@@ -139,16 +154,16 @@ module _ (st : State) (shaped : Shaped st) (facts : Loose st) (releaser : TaskNo
   heir-wants = and-both (here st h) _ heir-used (eq-eqb _ r heir-waits)
 
   heir-ends : places ≤ next mid h
-  heir-ends = T.heir-ends st shaped c t r h (g .0) (g .1) ready ended (g .3) (g .4) deep some refl heir-used heir-waits room
+  heir-ends = T.heir-ends st (way .shaped) c t r h used known ready ended owns top deep some refl heir-used heir-waits room
 
   link-moved : (y : ℕ) → (y ≡ h → ⊥) → wants y ≡ true → next mid y ≡ h
-  link-moved = T.link-moved st shaped c t r h (g .0) (g .1) ready ended (g .3) (g .4) deep some refl heir-used heir-waits room
+  link-moved = T.link-moved st (way .shaped) c t r h used known ready ended owns top deep some refl heir-used heir-waits room
 
   link-others : (y : ℕ) → (y ≡ h → ⊥) → wants y ≡ false → next mid y ≡ next st y
-  link-others = T.link-others st shaped c t r h (g .0) (g .1) ready ended (g .3) (g .4) deep some refl heir-used heir-waits room
+  link-others = T.link-others st (way .shaped) c t r h used known ready ended owns top deep some refl heir-used heir-waits room
 
   -- "what reached the releaser through this resource goes to the heir,
-  pub through-heir : (k s w : ℕ) → here st s ≡ true → Leads places (next st) k s w → taskAt st w .mode ≡ Waiting r → served after s ≡ h
+  through-heir : (k s w : ℕ) → here st s ≡ true → Leads places (next st) k s w → taskAt st w .mode ≡ Waiting r → served after s ≡ h
   through-heir k s w u l m =
       after-mid s
       ∙ served-walk mid s
@@ -156,7 +171,7 @@ module _ (st : State) (shaped : Shaped st) (facts : Loose st) (releaser : TaskNo
       k s w (here-below st s u) l (wants-by w (leads-here st k s w u l) m)
 
   -- the rest stays"
-  pub apart-stays : (s : ℕ) → ((k w : ℕ) → Leads places (next st) k s w → taskAt st w .mode ≡ Waiting r → ⊥) → served after s ≡ served st s
+  apart-stays : (s : ℕ) → ((k w : ℕ) → Leads places (next st) k s w → taskAt st w .mode ≡ Waiting r → ⊥) → served after s ≡ served st s
   apart-stays s f =
       after-mid s
       ∙ served-walk mid s
@@ -164,13 +179,38 @@ module _ (st : State) (shaped : Shaped st) (facts : Loose st) (releaser : TaskNo
       places s (λ k w l v. f k w l (by-wants w v))
       ∙ sym (served-walk st s)
 
-  pub heir-owns : ownerNo (resourceAt after r .owner) ≡ h
-  heir-owns =
-      ap (λ (x : Resource). ownerNo (x .owner))
-      (after-resource st e r
-      ∙ ap (λ z. resourceAt z r) changed-is
-      ∙ T.pass-resource st shaped c t r h (g .0) (g .1) ready ended (g .3) (g .4) deep some refl heir-used heir-waits room r)
-      ∙ rw (eq-eqb r r refl)
+  -- the entries that are stored
+  abbrev heir : Task
+  heir = pushed r (withMode Ready (taskAt st h))
+
+  abbrev giver : Task
+  giver = popped (taskAt st t)
+
+  abbrev line : Resource
+  line = withOwner (By (record { 0 = h })) (dequeued (resourceAt st r))
+
+  apart : t ≡ h → ⊥
+  apart q = omega (arith, ap awaited ready, ap (λ y. awaited (taskAt st y .mode)) q, heir-waits, present-below st r known)
+
+  task-now : (y : ℕ) → taskAt (changed st e) y ≡ (if eqb y h then heir else if eqb y t then giver else taskAt st y)
+  unfolding passed
+  task-now y =
+      ap (λ z. taskAt z y) changed-is
+      ∙ getD-set (set (st .task) t giver) h y heir noTask (omega (arith, length-set (st .task) t giver, way .shaped .tasks, here-below st h heir-used))
+      ∙ ap (λ z. if eqb y h then heir else z) (getD-set (st .task) t y giver noTask (omega (arith, way .shaped .tasks, here-below st t used)))
+
+  resource-now : (q : ℕ) → resourceAt (changed st e) q ≡ (if eqb q r then line else resourceAt st q)
+  resource-now q =
+      ap (λ z. resourceAt z q) changed-is
+      ∙ T.pass-resource st (way .shaped) c t r h used known ready ended owns top deep some refl heir-used heir-waits room q
+
+  server-now : (s : ℕ) → serverAt (changed st e) s ≡ serverAt st s
+  unfolding passed
+  server-now s = ap (λ z. serverAt z s) changed-is
+
+  clock-now : changed st e .clock ≡ st .clock
+  unfolding passed
+  clock-now = ap (λ z. z .clock) changed-is
 
   -- the heir did not execute: the releaser's server takes it where it serves it now
   heir-idle : executing st h ≡ false
@@ -179,39 +219,102 @@ module _ (st : State) (shaped : Shaped st) (facts : Loose st) (releaser : TaskNo
       (λ y.
       omega (
         arith,
-        runs-ended st facts h y,
-        T.heir-next st shaped c t r h (g .0) (g .1) ready ended (g .3) (g .4) deep some refl heir-used heir-waits room,
-        here-below st t (g .0),
+        runs-ended st (way .facts) h y,
+        T.heir-next st (way .shaped) c t r h used known ready ended owns top deep some refl heir-used heir-waits room,
+        here-below st t used,
       ))
 
-  pub heir-executor : runningFor after h (executorOf st t) ≡ true → executorOf after h ≡ executorOf st t
-  heir-executor = executor-taken st e shaped facts g h heir-used (rw (executor-none st h heir-used heir-idle) (nobody-serves after h))
+  heir-free : runningFor after h (executorOf st h) ≡ false
+  heir-free = rw (executor-none st h heir-used heir-idle) (nobody-serves after h)
 
-  pub releaser-executor : runningFor after t (executorOf st t) ≡ true → executorOf after t ≡ executorOf st t
-  releaser-executor = executor-kept st e shaped facts g t (g .0)
+  -- servers of any third task see no difference
+  others : ExecutorsStay st after (λ y. (y ≡ t) ⊎ (y ≡ h))
+  others y u n =
+      executor-same st e way y u
+      (λ s v.
+      ⊎-elim
+      (λ q.
+      unheld-fails _ (λ f. n (inr (sym (for-served after y s f) ∙ after-mid s ∙ q .1)))
+      ∙ sym (unheld-fails _ (λ f. n (inl (sym (for-served st y s f) ∙ q .0)))))
+      (λ q. same-for st e way y s (after-mid s ∙ q) (ap (λ (x : Server). running (x .phase)) (after-server st e s ∙ server-now s)))
+      (T.ends-after-pass st (way .shaped) c t r h used known ready ended owns top deep some refl heir-used heir-waits room s v))
 
   -- the releaser waits for nobody, and serves itself
-  pub releaser-end : served after t ≡ t
+  releaser-end : served after t ≡ t
   unfolding Leads
   releaser-end = apart-stays t free ∙ end-itself st t ended
     where
       free : (k w : ℕ) → Leads places (next st) k t w → taskAt st w .mode ≡ Waiting r → ⊥
-      free zero w l m = let z : nobody ≡ r = sym (ap awaited ready) ∙ ap (λ y. awaited (taskAt st y .mode)) l ∙ ap awaited m in omega (arith, present-below st r (g .1))
+      free zero w l m =
+          let z : nobody ≡ r = sym (ap awaited ready) ∙ ap (λ y. awaited (taskAt st y .mode)) l ∙ ap awaited m in
+          omega (arith, present-below st r known)
       free (suc k) w l m = omega (arith, ended, l .0)
 
-  pub others-stay : (s : ℕ) → here st s ≡ true → (served st s ≡ t → ⊥) → served after s ≡ served st s
+  others-stay : (s : ℕ) → here st s ≡ true → (served st s ≡ t → ⊥) → served after s ≡ served st s
   others-stay s u n =
       ⊎-elim (λ q. absurd (n (q .0))) (λ q. after-mid s ∙ q)
-      (T.ends-after-pass st shaped c t r h (g .0) (g .1) ready ended (g .3) (g .4) deep some refl heir-used heir-waits room s u)
+      (T.ends-after-pass st (way .shaped) c t r h used known ready ended owns top deep some refl heir-used heir-waits room s u)
 
   -- where it is the releaser's only resource, all that ended at the releaser came through it
-  pub only-through : taskAt st t .depth ≡ 1 → (s : ℕ) → here st s ≡ true → served st s ≡ t → (s ≡ t → ⊥) → served after s ≡ h
+  only-through : taskAt st t .depth ≡ 1 → (s : ℕ) → here st s ≡ true → served st s ≡ t → (s ≡ t → ⊥) → served after s ≡ h
   only-through one s u q n =
       ⊎-elim
       (λ z. absurd (n (z ∙ q)))
       (λ z.
       let a = leads-last places (next st) (z .0) s (served st s) (z .1) in
-      let o = linked-owner st (a .0) t (here-below st t (g .0)) (a .2 ∙ q) in
-      let same : awaited (taskAt st (a .0) .mode) ≡ r = sym (only-held st facts t _ (g .0) (o .0) (o .1) one) ∙ g .4 in
-      through-heir (z .0) s (a .0) u (a .1) (awaits-is (taskAt st (a .0) .mode) r (present-below st r (g .1)) same))
+      let o = linked-owner st (a .0) t (here-below st t used) (a .2 ∙ q) in
+      let same : awaited (taskAt st (a .0) .mode) ≡ r = sym (only-held st (way .facts) t _ used (o .0) (o .1) one) ∙ top in
+      through-heir (z .0) s (a .0) u (a .1) (awaits-is (taskAt st (a .0) .mode) r (present-below st r known) same))
       (served-leads st s)
+
+  -- by what leads to a waiter of the resource
+  goes-through : (s : ℕ) → here st s ≡ true → Through st r s → served after s ≡ h
+  unfolding Leads
+  goes-through s u q =
+      ⊎-elim
+      (λ z. through-heir 0 s (q .waiter) u z (q .here-waits))
+      (λ b. through-heir (suc (b .links)) s (q .waiter) u (b .way) (q .here-waits))
+      (q .way)
+
+  goes-apart : (s : ℕ) → here st s ≡ true → (Through st r s → ⊥) → served after s ≡ served st s
+  unfolding Leads
+  goes-apart s u n = apart-stays s (λ k v l m. n (leads-through k v l m))
+    where
+      leads-through : (k v : ℕ) → Leads places (next st) k s v → taskAt st v .mode ≡ Waiting r → Through st r s
+      leads-through zero v l m = record { waiter = v; here-waits = m; way = inl l }
+      leads-through (suc k) v l m = record { waiter = v; here-waits = m; way = inr (record { links = k; way = l }) }
+
+  passes : Passed st after t r h
+  passes = record {
+    rest =
+        rest-by st e way (st .clock) nothing (λ y. (y ≡ t) ⊎ (y ≡ h)) (only r) clock-now
+        (λ s u n. server-now s)
+        (λ y u n. task-now y ∙ rw (ne-eqb y h (λ q. n (inr q)), ne-eqb y t (λ q. n (inl q))))
+        (λ q u n. resource-now q ∙ rw (ne-eqb q r n));
+    owner = after-resource st e r ∙ resource-now r ∙ rw (eq-eqb r r refl);
+    heir-stack = task-is st e way h heir-used heir (task-now h ∙ rw (eq-eqb h h refl));
+    releaser-stack = task-is st e way t used giver (task-now t ∙ rw (ne-eqb t h apart, eq-eqb t t refl));
+    through = goes-through;
+    apart = goes-apart;
+    executors = others;
+    goes-with-heir = executor-taken st e way h heir-used heir-free;
+    heir-goes-on = executor-chosen st e way h heir-used heir-free;
+    stays-with-releaser = executor-kept st e way t used;
+    releaser-goes-on = λ f. executor-chosen st e way t used f f;
+  }
+
+  hands-over : taskAt st t .depth ≡ 1 → HandedOver st after t r h
+  hands-over one = record { passed = passes; own = releaser-end; inherited = only-through one; others = others-stay }
+
+pub passes-on
+    : (st : State) (j r : ℕ) → Proper st (Unlock (record { 0 = j }) r) → 0 < resourceAt st r .waiting
+    → Passed st (stepped st (Unlock (record { 0 = j }) r) .state) j r (firstWaiter (resourceAt st r))
+passes-on st j r p some =
+    properly st (Unlock (record { 0 = j }) r) p (λ after. Passed st after j r (firstWaiter (resourceAt st r))) (passes st j r some)
+
+pub hands-all
+    : (st : State) (j r : ℕ) → Proper st (Unlock (record { 0 = j }) r) → 0 < resourceAt st r .waiting → taskAt st j .depth ≡ 1
+    → HandedOver st (stepped st (Unlock (record { 0 = j }) r) .state) j r (firstWaiter (resourceAt st r))
+hands-all st j r p some one =
+    properly st (Unlock (record { 0 = j }) r) p (λ after. HandedOver st after j r (firstWaiter (resourceAt st r)))
+    (λ way. hands-over st j r some way one)

@@ -20,9 +20,10 @@ pub mod Refusals
 pub mod Lambda
 pub mod Readings
 pub mod Steps
-pub mod Phased
+pub mod Storing
 pub mod Preempting
 pub mod Dispatching
+pub mod Refilling
 pub mod Elapsing
 pub mod Sleeping
 pub mod Freeing
@@ -30,3 +31,5 @@ pub mod Joining
 pub mod Through
 pub mod Handing
 pub mod Unread
+pub mod InUse
+pub mod Fixed

@@ -1,54 +1,59 @@
--- Preempt: who executes after it. Assumes nothing.
-use mathlib.Core.Path.{_≡_, sym, ap, _∙_}
+-- Preempt: the server is Active, and the task that it executed goes on in the best Running server of its set, or nowhere. Assumes nothing.
+use mathlib.Core.Path.{_≡_, refl, sym, ap, _∙_}
 use mathlib.Core.Bool.{true, false}
 use Prim.Native.Nat.{ℕ}
 use Rattle.laws.proofs.Cases.{holds-fails, unheld-fails}
 use Rattle.model.specs.declared.Phase.the-variants.{Active}
-use Rattle.model.specs.declared.ServerNo.{ServerNo}
 use Rattle.model.specs.declared.Server.{Server}
 use Rattle.model.specs.declared.State.{State}
 use Rattle.model.specs.declared.Event.{Event}
 use Rattle.model.specs.declared.Event.the-variants.{Preempt}
 use Rattle.model.specs.State.{serverAt, here, running, runningFor, executorOf}
-use Rattle.model.specs.Shape.{Shaped}
-use Rattle.model.specs.RuleH.{chosen}
-use Rattle.model.specs.Step.{stateAfter}
-use Rattle.model.proofs.Sound.{Loose}
+use Rattle.model.specs.Events.{withPhase, phased}
+use Rattle.model.specs.Step.{stateAfter, stepped}
+use Rattle.theory.specs.Rules.{Proper, ExecutorsStay, Preempted}
 use Rattle.theory.proofs.Executing.{runs-for}
-use Rattle.model.proofs.Grounds.{Grounds}
 use Rattle.theory.proofs.Soundness.{served-executes}
-use Rattle.theory.proofs.Executing.{served-kept}
-use Rattle.theory.proofs.Steps.{nobody-serves, after-server, after-for, executor-chosen, executor-stays}
-use Rattle.theory.proofs.Readings.{for-running, rests-at}
-use Rattle.theory.proofs.Phased.{phased-self, phased-other}
+use Rattle.theory.proofs.Steps.{Way, properly, nobody-serves, ends-stay, executor-chosen, executor-stays}
+use Rattle.theory.proofs.Readings.{for-running, for-here, rests-at}
+use Rattle.theory.proofs.Storing.{stored-server, stored-rest, stored-for}
 
-module _ (st : State) (shaped : Shaped st) (facts : Loose st) (d : ServerNo) (g : Grounds st (Preempt d)) where
-  abbrev s : ℕ
-  s = d .0
-
+module _ (st : State) (s : ℕ) (w : Way st (Preempt (record { 0 = s }))) where
   abbrev e : Event
-  e = Preempt d
+  e = Preempt (record { 0 = s })
 
   abbrev after : State
   after = stateAfter st e
 
-  pub preempt-phase : serverAt after s .phase ≡ Active
-  preempt-phase = ap (λ (x : Server). x .phase) (after-server st e s) ∙ phased-self st shaped facts Active s (g .0)
+  abbrev x : Server
+  x = withPhase Active (serverAt st s)
 
-  preempt-for : (t u : ℕ) → (u ≡ s → ⊥) → runningFor after t u ≡ runningFor st t u
-  preempt-for t u n =
-      after-for st e t u (served-kept st shaped facts e g tt u) (ap (λ (x : Server). x .phase) (after-server st e u ∙ phased-other st shaped facts Active s (g .0) u n))
+  stops : serverAt after s ≡ x
+  unfolding phased
+  stops = stored-server st e w s x (w .ground .0) refl
 
-  preempt-not : (t : ℕ) → runningFor after t s ≡ false
-  preempt-not t = unheld-fails _ (λ h. holds-fails (for-running after t s h) (rests-at after s (ap running preempt-phase)))
+  stored : (t i : ℕ) → here st i ≡ true → (i ≡ s → ⊥) → runningFor after t i ≡ runningFor st t i
+  unfolding phased
+  stored = stored-for st e w s x (w .ground .0) refl tt
 
-  pub preempt-others : (t : ℕ) → here st t ≡ true → (executorOf st t ≡ s → ⊥) → executorOf after t ≡ executorOf st t
-  preempt-others t u n =
-      executor-stays st e shaped facts g t u
-      (λ y. preempt-for t _ n ∙ runs-for st facts t y)
-      (λ x h.
-      let apart : x ≡ s → ⊥ = λ q. holds-fails h (ap (runningFor after t) q ∙ preempt-not t) in
-      served-executes st facts t x u (sym (preempt-for t x apart) ∙ h))
+  off : (t : ℕ) → runningFor after t s ≡ false
+  off t = unheld-fails _ (λ h. holds-fails (for-running after t s h) (rests-at after s (ap (λ (z : Server). running (z .phase)) stops)))
 
-  pub preempt-chosen : (t : ℕ) → here st t ≡ true → executorOf st t ≡ s → executorOf after t ≡ chosen after t
-  preempt-chosen t u q = executor-chosen st e shaped facts g t u (ap (runningFor after t) q ∙ preempt-not t) (nobody-serves after t)
+  others : ExecutorsStay st after (λ t. executorOf st t ≡ s)
+  others t u n =
+      executor-stays st e w t u
+      (λ y. let f = runs-for st (w .facts) t y in stored t _ (for-here st t _ f) n ∙ f)
+      (λ i v h. served-executes st (w .facts) t i u (sym (stored t i v (λ q. holds-fails h (ap (runningFor after t) q ∙ off t))) ∙ h))
+
+  shows : Preempted st after s
+  unfolding phased
+  shows = record {
+    rest = stored-rest st e w s x (w .ground .0) refl;
+    stops = stops;
+    ends = ends-stay st e w tt;
+    executors = others;
+    goes-on = λ t u q. executor-chosen st e w t u (ap (runningFor after t) q ∙ off t) (nobody-serves after t);
+  }
+
+pub preempted : (st : State) (s : ℕ) → Proper st (Preempt (record { 0 = s })) → Preempted st (stepped st (Preempt (record { 0 = s })) .state) s
+preempted st s p = properly st (Preempt (record { 0 = s })) p (λ after. Preempted st after s) (shows st s)

@@ -1,22 +1,24 @@
--- A refusal gives the state back, and its number is that of a test, or 1. Assumes nothing.
+-- A refusal gives the state back, and its number is that of a test, or 1; so it is one of those that are listed for the event. Assumes nothing.
 use mathlib.Core.Path.{_≡_, refl, sym, ap, _∙_}
-use mathlib.Core.Bool.{true, false}
+use mathlib.Core.Bool.{Bool, true, false}
+use mathlib.Core.List.{List, [], _∷_}
 use mathlib.Core.Logic.{_⊎_, inl, inr, ⊎-elim}
 use mathlib.Core.Option.{Option, none, some}
 use Prim.Native.Nat.{ℕ}
+use lib.Dec.{eqb}
 use borrow.Author.Tests.{eq-eqb}
 use Rattle.laws.specs.Tests.{firstOf}
-use Rattle.laws.proofs.Cases.{split, holds-fails}
+use Rattle.laws.proofs.Cases.{split, none-some, holds-fails}
 use Rattle.model.specs.declared.State.{State}
 use Rattle.model.specs.declared.Event.{Event}
+use Rattle.model.specs.declared.Event.the-variants.{Wake, Suspend, Dispatch, Preempt, Elapse, Recharge, Lock, Unlock}
 use Rattle.model.specs.declared.Answer.the-variants.{Refused}
 use Rattle.model.specs.Sound.{sound}
 use Rattle.model.specs.Step.{tests, stateAfter, outcome, stepped}
 use Rattle.model.proofs.Sound.{Loose, sound-facts}
-use Rattle.theory.specs.Runs.{refusedBy, refused}
+use Rattle.theory.specs.Runs.{refusedBy, refused, numbers, Among}
 use Rattle.model.proofs.Grounds.{Grounds, grounds, unrefused-free}
-use Rattle.theory.proofs.Outcomes.{stepped-sound, answered-not}
-use Rattle.theory.proofs.Outcomes.{goes-none}
+use Rattle.theory.proofs.Outcomes.{stepped-sound, answered-not, goes-none}
 
 refused-number : (n m : ℕ) → Refused n ≡ Refused m → n ≡ m
 refused-number n m h = cc
@@ -26,7 +28,9 @@ outcome-refused none st e n h = holds-fails (ap (refusedBy n) h ∙ eq-eqb n n r
 outcome-refused (some m) st e n h = ap some (refused-number m n h)
 
 -- why it was refused: the state is not sound, or a test says so
-pub refused-why : (st : State) (e : Event) (n : ℕ) → stepped st e .answer ≡ Refused n → ((sound st ≡ false) × (n ≡ 1)) ⊎ ((sound st ≡ true) × (firstOf (tests st e) ≡ some n))
+pub refused-why
+    : (st : State) (e : Event) (n : ℕ) → stepped st e .answer ≡ Refused n
+    → ((sound st ≡ false) × (n ≡ 1)) ⊎ ((sound st ≡ true) × (firstOf (tests st e) ≡ some n))
 unfolding stepped
 refused-why st e n h =
     split
@@ -51,3 +55,42 @@ module _ (st : State) (e : Event) (s : sound st ≡ true) (goes : refused (stepp
 
   pub goes-loose : Loose st
   goes-loose = sound-facts st .holds s .is-loose
+
+-- the numbers of tests, and that the first that holds has one of them
+unfoldable numbersOf : List (ℕ × Bool) → List ℕ
+numbersOf [] = []
+numbersOf (t ∷ ts) = t .0 ∷ numbersOf ts
+
+first-among : (ts : List (ℕ × Bool)) (n : ℕ) → firstOf ts ≡ some n → Among n (numbersOf ts)
+unfolding firstOf Among numbersOf
+first-among [] n h = none-some h
+first-among (t ∷ ts) n h =
+    split
+    (eqb n (t .0))
+    (λ y. rw y tt)
+    (λ m.
+    rw m
+    (split
+    (t .1)
+    (λ y. let q : some (t .0) ≡ some n = rw y at h in let k : n ≡ t .0 = cc in absurd (holds-fails (eq-eqb n (t .0) k) m))
+    (λ f. first-among ts n (rw f at h))))
+
+among-by : (n : ℕ) (ts : List (ℕ × Bool)) → (n ≡ 1) ⊎ (firstOf ts ≡ some n) → Among n (1 ∷ numbersOf ts)
+unfolding Among
+among-by n ts (inl e) = rw (eq-eqb n 1 e) tt
+among-by n ts (inr h) = split (eqb n 1) (λ y. rw y tt) (λ m. rw m (first-among ts n h))
+
+listed-are : (st : State) (e : Event) → 1 ∷ numbersOf (tests st e) ≡ numbers e
+unfolding numbersOf
+listed-are st (Wake t) = refl
+listed-are st (Suspend t) = refl
+listed-are st (Dispatch s) = refl
+listed-are st (Preempt s) = refl
+listed-are st (Elapse n) = refl
+listed-are st (Recharge s) = refl
+listed-are st (Lock t r) = refl
+listed-are st (Unlock t r) = refl
+
+pub refused-listed : (st : State) (e : Event) (n : ℕ) → stepped st e .answer ≡ Refused n → Among n (numbers e)
+refused-listed st e n h =
+    rw (← (listed-are st e)) (among-by n (tests st e) (⊎-elim (λ f. inl (f .1)) (λ r. inr (r .1)) (refused-why st e n h)))

@@ -1,90 +1,203 @@
 -- Suspend and wake: the whole set rests, the whole set is Active again. Assumes nothing.
 use mathlib.Core.Path.{_≡_, refl, sym, ap, _∙_}
-use mathlib.Core.Bool.{true, false, _||_}
-use mathlib.Core.Logic.{_⊎_, inl, inr, ⊎-elim}
+use mathlib.Core.Bool.{Bool, true, false, _||_}
+use mathlib.Core.Logic.{inl}
 use Prim.Native.Nat.{ℕ}
-use borrow.Author.Tests.{eq-eqb, ne-eqb}
+use native.Mathlib.Omega.{arith}
+use lib.Dec.{eqb}
+use borrow.Author.Tests.{eqb-true, eqb-false, eq-eqb, ne-eqb}
+use Rattle.laws.specs.Tests.{if_then_else_}
 use Rattle.laws.proofs.Cases.{split, holds-fails, unheld-fails}
+use Rattle.laws.proofs.Lists.{getD-set}
 use Rattle.model.specs.declared.Phase.{Phase}
 use Rattle.model.specs.declared.Phase.the-variants.{Idle, Active, Running, Recharging}
-use Rattle.model.specs.declared.TaskNo.{TaskNo}
+use Rattle.model.specs.declared.Mode.the-variants.{Suspended, Ready}
 use Rattle.model.specs.declared.Server.{Server}
+use Rattle.model.specs.declared.Task.{Task}
 use Rattle.model.specs.declared.State.{State}
+use Rattle.model.specs.declared.Event.{Event}
 use Rattle.model.specs.declared.Event.the-variants.{Wake, Suspend}
-use Rattle.model.specs.State.{serverAt, here, idle, active, running, served, executorOf, executing}
-use Rattle.model.specs.Shape.{Shaped}
-use Rattle.model.specs.Events.{refilled, wakes, wokenServer, woken, rests, restedServer, rested, slept}
-use Rattle.model.specs.Step.{stateAfter}
-use Rattle.model.proofs.Sound.{Loose}
+use Rattle.model.specs.State.{noTask, serverAt, taskAt, here, idle, active, running, recharging, served, runningFor}
+use Rattle.model.specs.Events.{withTask, withPhase, refilled, withMode, eachServer, wakes, wokenServer, woken, rests, restedServer, rested, slept, changed}
+use Rattle.model.specs.Step.{stateAfter, stepped}
+use Rattle.model.proofs.Chain.{here-below}
+use Rattle.theory.specs.Rules.{Proper, Rest, ExecutorsStay, TaskIs, only, nothing, Slept, Woken}
 use Rattle.theory.proofs.Serving.{each-at}
-use Rattle.model.proofs.Grounds.{Grounds}
-use Rattle.theory.proofs.Executing.{served-kept}
-use Rattle.theory.proofs.Steps.{after-here, after-server, executor-serves}
-use Rattle.theory.proofs.Readings.{for-running, for-served, running-here, rests-at}
+use Rattle.theory.proofs.Steps.{Way, properly, after-server, task-is, rest-by, ends-stay, same-for, executor-lost, executor-same, executors-stay}
+use Rattle.theory.proofs.Readings.{idle-is, resting, for-running, for-served, rests-at}
 
--- a server at rest, or recharging as it was
-abbrev pub Resting : Server → Server → Type 0
-Resting now x = (now .phase ≡ Idle) ⊎ ((now .phase ≡ Recharging) × (now ≡ x))
+-- "Active and Running servers serving it become Idle": all that do not recharge
+at-rest : (x : Server) → (active (x .phase) || running (x .phase)) ≡ false → recharging (x .phase) ≡ false → withPhase Idle x ≡ x
+at-rest x f g = ap (λ p. withPhase p x) (idles (x .phase) f g)
+  where
+    idles : (p : Phase) → (active p || running p) ≡ false → recharging p ≡ false → Idle ≡ p
+    idles Idle f g = refl
+    idles Active f g = holds-fails refl f
+    idles Running f g = holds-fails refl f
+    idles Recharging f g = holds-fails refl g
 
-neither : (p : Phase) → (active p || running p) ≡ false → (p ≡ Idle) ⊎ (p ≡ Recharging)
-neither Idle f = inl refl
-neither Active f = holds-fails refl f
-neither Running f = holds-fails refl f
-neither Recharging f = inr refl
+module _ (st : State) (t s : ℕ) (used : here st s ≡ true) where
+  pub rested-set : served st s ≡ t → recharging (serverAt st s .phase) ≡ false → restedServer st t s ≡ withPhase Idle (serverAt st s)
+  unfolding restedServer rests
+  rested-set e f =
+      split
+      (active (serverAt st s .phase) || running (serverAt st s .phase))
+      (λ y. rw (used, y, eq-eqb _ t e))
+      (λ n. rw (used, n) (sym (at-rest (serverAt st s) n f)))
 
-module _ (st : State) where
-  module _ (t s : ℕ) (used : here st s ≡ true) where
-    -- "Active and Running servers serving it become Idle", no others change
-    pub rested-set : served st s ≡ t → Resting (restedServer st t s) (serverAt st s)
-    unfolding restedServer rests
-    rested-set e =
-        split
-        (active (serverAt st s .phase) || running (serverAt st s .phase))
-        (λ y. rw (used, y, eq-eqb _ t e) (inl refl))
-        (λ n. rw (used, n) (neither-of n))
-      where
-        neither-of : (active (serverAt st s .phase) || running (serverAt st s .phase)) ≡ false → Resting (serverAt st s) (serverAt st s)
-        neither-of n = ⊎-elim (λ i. inl i) (λ r. inr (r, refl)) (neither (serverAt st s .phase) n)
+  pub rested-still : (active (serverAt st s .phase) || running (serverAt st s .phase)) ≡ false → restedServer st t s ≡ serverAt st s
+  unfolding restedServer rests
+  rested-still n = rw (used, n)
 
-    pub rested-others : (served st s ≡ t → ⊥) → restedServer st t s ≡ serverAt st s
-    unfolding restedServer rests
-    rested-others n =
-        rw (used, ne-eqb _ t n) (split (active (serverAt st s .phase) || running (serverAt st s .phase)) (λ y. rw y) (λ m. rw m))
-
-    pub woken-set : served st s ≡ t → idle (serverAt st s .phase) ≡ true → wokenServer st t s ≡ refilled Active (st .clock) (serverAt st s)
-    unfolding wokenServer wakes
-    woken-set e i = rw (used, i, eq-eqb _ t e)
-
-    pub woken-awake : idle (serverAt st s .phase) ≡ false → wokenServer st t s ≡ serverAt st s
-    unfolding wokenServer wakes
-    woken-awake i = rw (used, i)
-
-    pub woken-others : (served st s ≡ t → ⊥) → wokenServer st t s ≡ serverAt st s
-    unfolding wokenServer wakes
-    woken-others n = rw (used, ne-eqb _ t n) (split (idle (serverAt st s .phase)) (λ y. rw y) (λ m. rw m))
-
-pub resting-off : (now x : Server) → Resting now x → running (now .phase) ≡ false
-resting-off now x (inl e) = ap running e
-resting-off now x (inr e) = ap running (e .0)
-
-module _ (st : State) (shaped : Shaped st) (t : TaskNo) where
-  pub sleep-server : (s : ℕ) → here st s ≡ true → serverAt (stateAfter st (Suspend t)) s ≡ restedServer st (t .0) s
-  unfolding slept rested
-  sleep-server s u = after-server st (Suspend t) s ∙ each-at st (shaped .servers) (restedServer st (t .0)) s u
-
-  pub wake-server : (s : ℕ) → here st s ≡ true → serverAt (stateAfter st (Wake t)) s ≡ wokenServer st (t .0) s
-  unfolding woken
-  wake-server s u = after-server st (Wake t) s ∙ each-at st (shaped .servers) (wokenServer st (t .0)) s u
-
-  pub sleep-lost : Loose st → Grounds st (Suspend t) → executing (stateAfter st (Suspend t)) (t .0) ≡ false
-  sleep-lost facts g =
-      let after : State = stateAfter st (Suspend t) in
-      unheld-fails _
+  pub rested-other : ((served st s ≡ t) × (recharging (serverAt st s .phase) ≡ false) → ⊥) → restedServer st t s ≡ serverAt st s
+  unfolding restedServer rests
+  rested-other n =
+      split
+      (eqb (served st s) t)
       (λ y.
-      let f = executor-serves st (Suspend t) shaped facts g (t .0) (g .0) y in
-      let x = executorOf after (t .0) in
-      let r = for-running after (t .0) x f in
-      let u : here st x ≡ true = sym (after-here st (Suspend t) x) ∙ running-here after x r in
-      let e : served st x ≡ t .0 = sym (served-kept st shaped facts (Suspend t) g tt x) ∙ for-served after (t .0) x f in
-      holds-fails r
-      (rests-at after x (ap (λ (z : Server). running (z .phase)) (sleep-server x u) ∙ resting-off _ (serverAt st x) (rested-set st (t .0) x u e))))
+      let r : recharging (serverAt st s .phase) ≡ true = held-else (recharging (serverAt st s .phase)) (λ f. n (eqb-true _ t y, f)) in
+      rested-still (resting (serverAt st s .phase) (inl r)))
+      (λ m. split (active (serverAt st s .phase) || running (serverAt st s .phase)) (λ y. rw (used, y, m)) rested-still)
+    where
+      held-else : (b : Bool) → (b ≡ false → ⊥) → b ≡ true
+      held-else true f = refl
+      held-else false f = absurd (f refl)
+
+  -- so none of the set runs
+  pub rested-off : served st s ≡ t → running (restedServer st t s .phase) ≡ false
+  unfolding restedServer rests
+  rested-off e =
+      split
+      (active (serverAt st s .phase) || running (serverAt st s .phase))
+      (λ y. rw (used, y, eq-eqb _ t e))
+      (λ n. rw (used, n) (neither (active (serverAt st s .phase)) (running (serverAt st s .phase)) n))
+    where
+      neither : (a b : Bool) → (a || b) ≡ false → b ≡ false
+      neither true b h = holds-fails refl h
+      neither false b h = h
+
+  woken-set : served st s ≡ t → idle (serverAt st s .phase) ≡ true → wokenServer st t s ≡ refilled Active (st .clock) (serverAt st s)
+  unfolding wokenServer wakes
+  woken-set e i = rw (used, i, eq-eqb _ t e)
+
+  woken-other : ((served st s ≡ t) × (idle (serverAt st s .phase) ≡ true) → ⊥) → wokenServer st t s ≡ serverAt st s
+  unfolding wokenServer wakes
+  woken-other n =
+      split
+      (eqb (served st s) t)
+      (λ y. rw (used, unheld-fails (idle (serverAt st s .phase)) (λ i. n (eqb-true _ t y, i))))
+      (λ m. rw (used, m) (split (idle (serverAt st s .phase)) (λ y. rw y) (λ z. rw z)))
+
+  -- an Idle server that is Active now runs neither before nor after
+  woken-phase : running (wokenServer st t s .phase) ≡ running (serverAt st s .phase)
+  unfolding wokenServer wakes
+  woken-phase =
+      split
+      (idle (serverAt st s .phase))
+      (λ i.
+      split
+      (eqb (served st s) t)
+      (λ y. rw (used, i, y) (sym (ap running (idle-is (serverAt st s .phase) i))))
+      (λ n. rw (used, i, n)))
+      (λ n. rw (used, n))
+
+module _ (st : State) (j : ℕ) where
+  -- an event that makes every server anew and stores task j
+  module _
+      (e : Event) (w : Way st e) (f : ℕ → Server) (k : Task) (used : here st j ≡ true)
+      (is : changed st e ≡ withTask j k (eachServer st f))
+    where
+      anew : (s : ℕ) → here st s ≡ true → serverAt (changed st e) s ≡ f s
+      anew s u = ap (λ z. serverAt z s) is ∙ each-at st (w .shaped .servers) f s u
+
+      stores : (t : ℕ) → taskAt (changed st e) t ≡ (if eqb t j then k else taskAt st t)
+      unfolding eachServer
+      stores t = ap (λ z. taskAt z t) is ∙ getD-set (st .task) j t k noTask (omega (arith, w .shaped .tasks, here-below st j used))
+
+      stored : TaskIs (stateAfter st e) j k
+      stored = task-is st e w j used k (stores j ∙ rw (eq-eqb j j refl))
+
+      stirred
+          : (servers : ℕ → Type 0) → ((s : ℕ) → here st s ≡ true → (servers s → ⊥) → f s ≡ serverAt st s)
+          → Rest st (stateAfter st e) (st .clock) servers (only j) nothing
+      unfolding eachServer
+      stirred servers same =
+          rest-by st e w (st .clock) servers (only j) nothing (rw is)
+          (λ s u n. anew s u ∙ same s u n)
+          (λ t u n. stores t ∙ rw (ne-eqb t j n))
+          (λ r u n. rw is)
+
+  module _ (w : Way st (Wake (record { 0 = j }))) where
+    abbrev e : Event
+    e = Wake (record { 0 = j })
+
+    abbrev k : Task
+    k = withMode Ready (taskAt st j)
+
+    at : (s : ℕ) → here st s ≡ true → serverAt (stateAfter st e) s ≡ wokenServer st j s
+    unfolding woken
+    at s u = after-server st e s ∙ anew e w (wokenServer st j) k (w .ground .0) refl s u
+
+    wakes-all : Woken st (stateAfter st e) j
+    unfolding woken
+    wakes-all = record {
+      rest =
+          stirred e w (wokenServer st j) k (w .ground .0) refl (λ s. (served st s ≡ j) × (idle (serverAt st s .phase) ≡ true)) (woken-other st j);
+      set = λ s i y. at s (i .0) ∙ woken-set st j s (i .0) (i .1) y;
+      wakes = stored e w (wokenServer st j) k (w .ground .0) refl;
+      ends = ends-stay st e w tt;
+      executors = executors-stay st e w tt (λ s u. ap (λ (x : Server). running (x .phase)) (at s u) ∙ woken-phase st j s u);
+    }
+
+  module _ (w : Way st (Suspend (record { 0 = j }))) where
+    abbrev d : Event
+    d = Suspend (record { 0 = j })
+
+    abbrev l : Task
+    l = withMode Suspended (taskAt st j)
+
+    at-rest-now : (s : ℕ) → here st s ≡ true → serverAt (stateAfter st d) s ≡ restedServer st j s
+    unfolding slept rested
+    at-rest-now s u = after-server st d s ∙ anew d w (restedServer st j) l (w .ground .0) refl s u
+
+    -- a server of another set is as it was
+    apart : (s : ℕ) → here st s ≡ true → (served st s ≡ j → ⊥) → serverAt (stateAfter st d) s ≡ serverAt st s
+    apart s u n = at-rest-now s u ∙ rested-other st j s u (λ q. n (q .0))
+
+    gone : (s : ℕ) → here st s ≡ true → runningFor (stateAfter st d) j s ≡ false
+    gone s u =
+        unheld-fails _
+        (λ f.
+        holds-fails (for-running (stateAfter st d) j s f)
+        (rests-at (stateAfter st d) s
+        (ap (λ (x : Server). running (x .phase)) (at-rest-now s u) ∙ rested-off st j s u (sym (ends-stay st d w tt s u) ∙ for-served (stateAfter st d) j s f))))
+
+    others : ExecutorsStay st (stateAfter st d) (only j)
+    others t u n =
+        executor-same st d w t u
+        (λ s v.
+        split
+        (eqb (served st s) j)
+        (λ y.
+        let q : served st s ≡ j = eqb-true _ j y in
+        unheld-fails _ (λ f. n (sym (for-served (stateAfter st d) t s f) ∙ ends-stay st d w tt s v ∙ q))
+        ∙ sym (unheld-fails _ (λ f. n (sym (for-served st t s f) ∙ q))))
+        (λ m. same-for st d w t s (ends-stay st d w tt s v) (ap (λ (x : Server). running (x .phase)) (apart s v (eqb-false _ j m)))))
+
+    sleeps-all : Slept st (stateAfter st d) j
+    unfolding slept rested
+    sleeps-all = record {
+      rest =
+          stirred d w (restedServer st j) l (w .ground .0) refl (λ s. (served st s ≡ j) × (recharging (serverAt st s .phase) ≡ false)) (rested-other st j);
+      set = λ s i y. at-rest-now s (i .0) ∙ rested-set st j s (i .0) (i .1) y;
+      sleeps = stored d w (restedServer st j) l (w .ground .0) refl;
+      ends = ends-stay st d w tt;
+      executors = others;
+      nowhere = executor-lost st d w j (w .ground .0) gone;
+    }
+
+pub wakes-set : (st : State) (j : ℕ) → Proper st (Wake (record { 0 = j })) → Woken st (stepped st (Wake (record { 0 = j })) .state) j
+wakes-set st j p = properly st (Wake (record { 0 = j })) p (λ after. Woken st after j) (wakes-all st j)
+
+pub sleeps-set : (st : State) (j : ℕ) → Proper st (Suspend (record { 0 = j })) → Slept st (stepped st (Suspend (record { 0 = j })) .state) j
+sleeps-set st j p = properly st (Suspend (record { 0 = j })) p (λ after. Slept st after j) (sleeps-all st j)

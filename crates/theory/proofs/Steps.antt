@@ -1,26 +1,32 @@
--- What is read after an accepted event: servers, chain ends, and who executes. Assumes nothing.
-use mathlib.Core.Path.{_≡_, refl, sym, ap, _∙_}
+-- The one way that the rules of the paper are proved: an event that no test refuses, in a sound state (`Way`). Servers, resources and tasks after it are
+-- those of the event's own change, but for where a task executes; and who executes is rule H. Assumes nothing.
+use mathlib.Core.Path.{_≡_, refl, sym, _∙_}
 use mathlib.Core.Bool.{true, false}
-use Prim.Native.Nat.{ℕ}
+use Prim.Native.Nat.{ℕ, _<_}
+use lib.ListN.{length}
 use Rattle.laws.proofs.Cases.{split, holds-fails, unheld-fails}
+use Rattle.laws.proofs.Set.{set-at}
 use Rattle.model.specs.declared.Runs.{Runs}
 use Rattle.model.specs.declared.Runs.the-variants.{Nowhere, In}
+use Rattle.model.specs.declared.Task.{Task}
 use Rattle.model.specs.declared.State.{State}
 use Rattle.model.specs.declared.Event.{Event}
-use Rattle.model.specs.State.{nobody, serverAt, taskAt, resourceAt, here, present, placed, placeNo, served, runningAt, runningFor, executorOf, executing}
+use Rattle.model.specs.State.{nobody, noTask, serverAt, taskAt, resourceAt, here, present, running, placed, placeNo, served, runningAt, runningFor, executorOf, executing}
 use Rattle.model.specs.Shape.{Shaped}
-use Rattle.model.specs.RuleH.{budgetAt, chosen, settled}
+use Rattle.model.specs.RuleH.{budgetAt, chosen, settledTask, settled}
 use Rattle.model.specs.Events.{changed, acting}
-use Rattle.model.specs.Step.{stateAfter}
+use Rattle.model.specs.Step.{stateAfter, stepped}
+use Rattle.model.proofs.Chain.{here-below}
 use Rattle.model.proofs.Chosen.{chosen-alone}
-use Rattle.model.proofs.Sound.{Loose}
-use Rattle.model.proofs.RuleH.{settled-here, settled-for, settled-none, settled-chooses}
-use Rattle.theory.proofs.Frames.{heads-here, heads-present}
-use Rattle.theory.proofs.Frames.{heads-kept}
-use Rattle.theory.proofs.Executing.{runs-for}
 use Rattle.model.proofs.Grounds.{Grounds}
+use Rattle.model.proofs.Sound.{Loose}
+use Rattle.model.proofs.RuleH.{settled-here, settled-for, settled-executor, settled-chooses}
+use Rattle.theory.specs.Rules.{Proper, TaskIs, Rest, EndsStay, ExecutorsStay, ExecutesNowhere, nothing}
+use Rattle.theory.proofs.Frames.{heads-here, heads-present, heads-kept}
+use Rattle.theory.proofs.Executing.{runs-for, now-here, inside, rule-h, Quiet, served-kept}
 use Rattle.theory.proofs.Soundness.{served-executes}
-use Rattle.theory.proofs.Executing.{now-here, inside, rule-h}
+use Rattle.theory.proofs.Refusals.{goes-grounds, goes-after, goes-loose}
+use Rattle.theory.proofs.Readings.{for-here}
 
 unplaced : (x : Runs) → placed x ≡ false → placeNo x ≡ nobody
 unplaced Nowhere e = refl
@@ -53,58 +59,120 @@ module _ (st : State) (e : Event) where
   unfolding stateAfter settled
   after-resource r = refl
 
-  pub after-running : (s : ℕ) → serverAt (stateAfter st e) s .phase ≡ serverAt st s .phase → runningAt (stateAfter st e) s ≡ runningAt st s
+  pub after-running
+      : (s : ℕ) → running (serverAt (stateAfter st e) s .phase) ≡ running (serverAt st s .phase)
+      → runningAt (stateAfter st e) s ≡ runningAt st s
   unfolding runningAt
   after-running s p = rw (after-here s, p)
 
-  pub after-for
-      : (t s : ℕ) → served (stateAfter st e) s ≡ served st s → serverAt (stateAfter st e) s .phase ≡ serverAt st s .phase
-      → runningFor (stateAfter st e) t s ≡ runningFor st t s
+-- an event that no test refuses, in a sound state
+pub record Way (st : State) (e : Event) : Type 0 where
+  pub shaped : Shaped st
+  pub facts : Loose st
+  pub ground : Grounds st e
+
+-- what an accepted event's way shows of the state after the change and rule H is so after the step
+pub properly : (st : State) (e : Event) → Proper st e → (P : State → Type 0) → (Way st e → P (stateAfter st e)) → P (stepped st e .state)
+properly st e p P shows =
+    rw (goes-after st e (p .is-sound) (p .goes))
+    (shows (record { shaped = p .shaped; facts = goes-loose st e (p .is-sound) (p .goes); ground = goes-grounds st e (p .is-sound) (p .goes) }))
+
+module _ (st : State) (e : Event) (w : Way st e) where
+  abbrev now : State
+  now = changed st e
+
+  abbrev after : State
+  after = stateAfter st e
+
+  -- a task is what the change makes of it, but for where it executes
+  pub task-is : (t : ℕ) → here st t ≡ true → (k : Task) → taskAt now t ≡ k → TaskIs after t k
+  unfolding stateAfter settled settledTask
+  task-is t u k is =
+      let h : here now t ≡ true = now-here st e (w .shaped) (w .facts) (w .ground) t u in
+      let l : t < length (now .task) = inside st e (w .shaped) (w .facts) (w .ground) t u in
+      set-at _ t _ (now .task) noTask (here-below st t u) l
+      ∙ rw (h, is, settled-executor st now (acting st e) t h l)
+
+  -- the rest stays where the change leaves it
+  pub rest-by
+      : (clock : ℕ) (servers tasks resources : ℕ → Type 0)
+      → now .clock ≡ clock
+      → ((s : ℕ) → here st s ≡ true → (servers s → ⊥) → serverAt now s ≡ serverAt st s)
+      → ((t : ℕ) → here st t ≡ true → (tasks t → ⊥) → taskAt now t ≡ taskAt st t)
+      → ((r : ℕ) → present st r ≡ true → (resources r → ⊥) → resourceAt now r ≡ resourceAt st r)
+      → Rest st after clock servers tasks resources
+  unfolding stateAfter settled
+  rest-by clock servers tasks resources c s t r = record {
+    processor-count = heads-kept st e .0;
+    task-count = heads-kept st e .1;
+    resource-count = heads-kept st e .2;
+    time = c;
+    server = s;
+    task = λ i u n. task-is i u (taskAt st i) (t i u n);
+    resource = r;
+  }
+
+  pub ends-stay : Quiet st e → EndsStay st after
+  ends-stay q s u = served-kept st (w .shaped) (w .facts) e (w .ground) q s
+
+  -- a server that runs if it ran, with the end that it had, runs for whom it ran
+  pub same-for
+      : (t s : ℕ) → served after s ≡ served st s → running (serverAt after s .phase) ≡ running (serverAt st s .phase)
+      → runningFor after t s ≡ runningFor st t s
   unfolding runningFor
-  after-for t s ends p = rw (after-running s p, ends)
+  same-for t s ends p = rw (after-running st e s p, ends)
 
-  module _ (shaped : Shaped st) (facts : Loose st) (g : Grounds st e) (t : ℕ) (used : here st t ≡ true) where
-    abbrev after : State
-    after = stateAfter st e
-
+  -- who executes
+  module _ (t : ℕ) (used : here st t ≡ true) where
     pub executor-kept : runningFor after t (executorOf st t) ≡ true → executorOf after t ≡ executorOf st t
-    unfolding stateAfter
-    executor-kept = rule-h st e shaped facts g t used .keeps
+    executor-kept = rule-h st e (w .shaped) (w .facts) (w .ground) t used .keeps
 
     pub executor-taken : runningFor after t (executorOf st t) ≡ false → runningFor after t (acting st e) ≡ true → executorOf after t ≡ acting st e
-    unfolding stateAfter
-    executor-taken = rule-h st e shaped facts g t used .takes
+    executor-taken = rule-h st e (w .shaped) (w .facts) (w .ground) t used .takes
 
     pub executor-serves : executing after t ≡ true → runningFor after t (executorOf after t) ≡ true
-    unfolding stateAfter
-    executor-serves = rule-h st e shaped facts g t used .serves
+    executor-serves = rule-h st e (w .shaped) (w .facts) (w .ground) t used .serves
 
     pub executor-some : (s : ℕ) → runningFor after t s ≡ true → executing after t ≡ true
-    unfolding stateAfter
-    executor-some = rule-h st e shaped facts g t used .some
+    executor-some = rule-h st e (w .shaped) (w .facts) (w .ground) t used .some
 
     pub executor-chosen : runningFor after t (executorOf st t) ≡ false → runningFor after t (acting st e) ≡ false → executorOf after t ≡ chosen after t
     unfolding stateAfter settled budgetAt
     executor-chosen f h =
-        let now = changed st e in
         let still = settled-for st now (acting st e) t in
-        settled-chooses st now (acting st e) t (now-here st e shaped facts g t used) (inside st e shaped facts g t used) (sym (still _) ∙ f) (sym (still _) ∙ h)
+        settled-chooses st now (acting st e) t
+        (now-here st e (w .shaped) (w .facts) (w .ground) t used)
+        (inside st e (w .shaped) (w .facts) (w .ground) t used)
+        (sym (still _) ∙ f)
+        (sym (still _) ∙ h)
         ∙ sym (chosen-alone after now t t (λ s l. still s) (λ s l r. refl))
 
-    pub executor-lost : ((s : ℕ) → runningFor after t s ≡ false) → executorOf after t ≡ nobody
-    unfolding stateAfter executorOf
-    executor-lost f = ap placeNo (settled-none st (changed st e) (acting st e) t (now-here st e shaped facts g t used) (inside st e shaped facts g t used) f)
+    -- where no Running server serves it, nowhere
+    pub executor-lost : ((s : ℕ) → here st s ≡ true → runningFor after t s ≡ false) → ExecutesNowhere after t
+    executor-lost f =
+        let off : (s : ℕ) → runningFor after t s ≡ false =
+        λ s. unheld-fails _ (λ h. holds-fails h (f s (sym (after-here st e s) ∙ for-here after t s h))) in
+        let none : executing after t ≡ false = unheld-fails _ (λ y. holds-fails (executor-serves y) (off _)) in
+        (none, executor-none after t (after-here st e t ∙ used) none)
 
     -- who executed goes on, and where nobody did nobody does
     pub executor-stays
-        : (executing st t ≡ true → runningFor after t (executorOf st t) ≡ true) → ((s : ℕ) → runningFor after t s ≡ true → executing st t ≡ true)
+        : (executing st t ≡ true → runningFor after t (executorOf st t) ≡ true)
+        → ((s : ℕ) → here st s ≡ true → runningFor after t s ≡ true → executing st t ≡ true)
         → executorOf after t ≡ executorOf st t
     executor-stays keep fewer =
         split
         (executing st t)
         (λ y. executor-kept (keep y))
-        (λ n. executor-lost (λ s. unheld-fails _ (λ h. holds-fails (fewer s h) n)) ∙ sym (executor-none st t used n))
+        (λ n. executor-lost (λ s u. unheld-fails _ (λ h. holds-fails (fewer s u h) n)) .1 ∙ sym (executor-none st t used n))
 
-    pub executor-same : ((s : ℕ) → runningFor after t s ≡ runningFor st t s) → executorOf after t ≡ executorOf st t
+    pub executor-same : ((s : ℕ) → here st s ≡ true → runningFor after t s ≡ runningFor st t s) → executorOf after t ≡ executorOf st t
     executor-same same =
-        executor-stays (λ y. same _ ∙ runs-for st facts t y) (λ s h. served-executes st facts t s used (sym (same s) ∙ h))
+        executor-stays
+        (λ y. let f = runs-for st (w .facts) t y in same _ (for-here st t _ f) ∙ f)
+        (λ s u h. served-executes st (w .facts) t s used (sym (same s u) ∙ h))
+
+  -- the same servers run, with the same ends: the same executors
+  pub executors-stay
+      : Quiet st e → ((s : ℕ) → here st s ≡ true → running (serverAt after s .phase) ≡ running (serverAt st s .phase)) → ExecutorsStay st after nothing
+  executors-stay q same t u n = executor-same t u (λ s v. same-for t s (ends-stay q s v) (same s v))

@@ -1,42 +1,37 @@
 -- Conservation: what servers executed and lent is what tasks executed, and both are the ticks of the run. Each task that executes has one server that
--- executes it, so that both are counted alike. Assumes nothing.
+-- executes it, so that both are counted alike; and of one task what its record grew by is the ticks for which servers executed it. Assumes nothing.
 use mathlib.Core.Path.{_≡_, refl, sym, ap, _∙_}
 use mathlib.Core.Bool.{Bool, true, false, not, _&&_}
 use mathlib.Core.List.{List, [], _∷_}
-use mathlib.Core.Option.{Option, none, some}
-use Prim.Native.Nat.{ℕ, zero, suc, _+_, _*_, _<_}
-use native.Mathlib.Nat.{mul-add, mul-one, mul-zero, zero-mul}
+use Prim.Native.Nat.{ℕ, zero, suc, _+_, _*_, _<_, _≤_}
+use native.Mathlib.Nat.{mul-add, mul-one, mul-zero}
 use native.Mathlib.Omega.{arith}
 use lib.Dec.{eqb}
 use borrow.Author.Tests.{eq-eqb, ne-eqb}
-use Rattle.laws.specs.Tests.{if_then_else_, bit, firstOf}
+use Rattle.laws.specs.Tests.{if_then_else_, bit}
 use Rattle.laws.specs.Loops.{countTo, sumTo}
 use Rattle.laws.proofs.Cases.{split, holds-fails, unheld-fails, and-left}
-use Rattle.laws.proofs.Count.{count-sum, count-zero, count-but-one}
+use Rattle.laws.proofs.Count.{bit-le, count-sum, count-zero, count-but-one}
 use Rattle.laws.proofs.Sum.{sum-ext, sum-add, sum-zero}
 use Rattle.reordering.specs.Run.{after}
 use Rattle.model.specs.declared.State.{State}
 use Rattle.model.specs.declared.Table.{Table}
 use Rattle.model.specs.declared.Event.{Event}
-use Rattle.model.specs.declared.Event.the-variants.{Wake, Suspend, Dispatch, Preempt, Elapse, Recharge, Lock, Unlock}
 use Rattle.model.specs.State.{places, serverAt, taskAt, here, served, runningAt, executing, executes}
 use Rattle.model.specs.Sound.{sound}
 use Rattle.model.specs.Shape.{Shaped}
 use Rattle.model.specs.Fresh.{freshState}
-use Rattle.model.specs.Events.{lentTicks, changed, acting}
-use Rattle.model.specs.Step.{tests, stateAfter, outcome, stepped, move}
+use Rattle.model.specs.Events.{lentTicks}
+use Rattle.model.specs.Step.{stepped, move}
 use Rattle.model.proofs.Chain.{here-below, served-below}
 use Rattle.model.proofs.Sound.{Loose, sound-facts}
-use Rattle.model.proofs.RuleH.{serving-here, settled-here}
-use Rattle.theory.specs.Runs.{refused, executesIn, ticksOf, ticks, total}
-use Rattle.theory.specs.Demand2.{Accounts, Ticks}
+use Rattle.model.proofs.RuleH.{serving-here}
+use Rattle.theory.specs.Runs.{Accepted, reached, executesIn, lasts, ticks, ticksFor, total}
+use Rattle.theory.specs.Rules.{Accounts}
 use Rattle.model.proofs.Fresh.{fresh-sound, fresh-shaped}
-use Rattle.theory.proofs.Frames.{heads-here}
-use Rattle.theory.proofs.Frames.{heads-kept}
-use Rattle.theory.proofs.Outcomes.{outcome-has}
-use Rattle.theory.proofs.Outcomes.{stepped-sound}
-use Rattle.theory.proofs.Soundness.{kept, executes-for, servers-count}
-use Rattle.theory.proofs.Accounts.{accounts-by-elapse}
+use Rattle.theory.proofs.Soundness.{kept, executes-for, servers-count, servers-that-execute}
+use Rattle.theory.proofs.Accounts.{event-adds}
+use Rattle.theory.proofs.Unread.{stepped-here}
 
 -- a sum of sums in the other order
 sum-swap : (n m : ℕ) (f : ℕ → ℕ → ℕ) → sumTo n (λ i. sumTo m (f i)) ≡ sumTo m (λ j. sumTo n (λ i. f i j))
@@ -120,108 +115,124 @@ total-grows st next f g n p same out grows =
     rw (same i)
     (split (here st i) (λ y. rw y (grows i y)) (λ m. rw (m, out i m))))
 
+times-bit : (n : ℕ) (b : Bool) → n * bit b ≡ (if b then n else 0)
+times-bit n true = mul-one n
+times-bit n false = mul-zero n
+
 own-lent : (a b : Bool) (n : ℕ) → (if a && b then n else 0) + (if a && not b then n else 0) ≡ (if a then n else 0)
 own-lent true true n = omega arith
 own-lent true false n = omega arith
 own-lent false b n = refl
 
-module _ (st next : State) (n : ℕ) (facts : Loose st) (same : (i : ℕ) → here next i ≡ here st i) (accounts : (i : ℕ) → here st i ≡ true → Accounts st next n i) where
-  did-grows : total next (did next) ≡ total st (did st) + n * countTo places (executing st)
-  did-grows = total-grows st next (did next) (did st) n (executing st) same past (λ i u. accounts i u .executed)
-    where
-      past : (i : ℕ) → here st i ≡ false → executing st i ≡ false
-      past i m = unheld-fails _ (λ h. holds-fails (executing-here st i h) m)
+module _
+    (st next : State)
+    (n : ℕ)
+    (facts : Loose st)
+    (same : (i : ℕ) → here next i ≡ here st i)
+    (accounts : (i : ℕ) → here st i ≡ true → Accounts st next n i)
+  where
+    did-grows : total next (did next) ≡ total st (did st) + n * countTo places (executing st)
+    did-grows = total-grows st next (did next) (did st) n (executing st) same past (λ i u. accounts i u .executed)
+      where
+        past : (i : ℕ) → here st i ≡ false → executing st i ≡ false
+        past i m = unheld-fails _ (λ h. holds-fails (executing-here st i h) m)
 
-  gave-grows : total next (gave next) ≡ total st (gave st) + n * countTo places (executing st)
-  unfolding lentTicks
-  gave-grows =
-      total-grows st next (gave next) (gave st) n (executes st) same past
-      (λ i u.
-      let a = accounts i u in
-      omega (arith, a .own, a .lent, own-lent (executes st i) (eqb (served st i) i) n))
-      ∙ ap (λ k. total st (gave st) + n * k) (executes-count st facts)
-    where
-      past : (i : ℕ) → here st i ≡ false → executes st i ≡ false
-      past i m = unheld-fails _ (λ h. holds-fails (executes-here st i h) m)
+    gave-grows : total next (gave next) ≡ total st (gave st) + n * countTo places (executing st)
+    unfolding lentTicks
+    gave-grows =
+        total-grows st next (gave next) (gave st) n (executes st) same past
+        (λ i u.
+        let a = accounts i u in
+        omega (arith, a .own, a .lent, own-lent (executes st i) (eqb (served st i) i) n))
+        ∙ ap (λ k. total st (gave st) + n * k) (executes-count st facts)
+      where
+        past : (i : ℕ) → here st i ≡ false → executes st i ≡ false
+        past i m = unheld-fails _ (λ h. holds-fails (executes-here st i h) m)
 
--- one event
-same-here : (st : State) (e : Event) (i : ℕ) → here (stateAfter st e) i ≡ here st i
-unfolding stateAfter
-same-here st e i = settled-here st (changed st e) (acting st e) i ∙ heads-here (changed st e) st (heads-kept st e .1) (heads-kept st e .2) i
+    -- of one task: as many ticks as servers execute it for
+    one-grows : (t : ℕ) → here st t ≡ true → did next t ≡ did st t + n * countTo places (executesIn st t)
+    one-grows t u =
+        accounts t u .executed
+        ∙ ap (λ k. did st t + k) (sym (times-bit n (executing st t)) ∙ ap (λ k. n * k) (sym (servers-count st facts t u)))
 
-refused-same : (x : Option ℕ) (st : State) (n : ℕ) → refused (outcome x st (Elapse n) .answer) ≡ true → outcome x st (Elapse n) .state ≡ st
-refused-same none st n h = holds-fails h refl
-refused-same (some m) st n h = refl
+-- an event, with the ticks that pass in it
+pub record Grown (st next : State) (n : ℕ) : Type 0 where
+  pub given : total next (gave next) ≡ total st (gave st) + n * countTo places (executing st)
+  pub done : total next (did next) ≡ total st (did st) + n * countTo places (executing st)
+  pub each : (t : ℕ) → here st t ≡ true → did next t ≡ did st t + n * countTo places (executesIn st t)
 
--- the totals grow by the event's ticks
-abbrev Grown : State → State → ℕ → Type 0
-Grown st next k = (total next (gave next) ≡ total st (gave st) + k) × (total next (did next) ≡ total st (did st) + k)
-
-module _ (st : State) (s : sound st ≡ true) where
-  facts-of : Loose st
-  facts-of = sound-facts st .holds s .is-loose
-
-  stepped-here : (e : Event) (i : ℕ) → here (stepped st e .state) i ≡ here st i
-  stepped-here e i =
-      rw (stepped-sound st e s) (outcome-has (λ x. here x i ≡ here st i) (firstOf (tests st e)) st e refl (λ h. same-here st e i))
-
-  others-grown : (e : Event) → ((n : ℕ) → e ≡ Elapse n → ⊥) → Grown st (stepped st e .state) 0
-  others-grown e other =
-      let a : (i : ℕ) → here st i ≡ true → Accounts st (stepped st e .state) 0 i = λ i u. accounts-by-elapse .1 st e i other in
-      let z = zero-mul (countTo places (executing st)) in (
-        gave-grows st (stepped st e .state) 0 facts-of (stepped-here e) a ∙ ap (λ k. total st (gave st) + k) z,
-        did-grows st (stepped st e .state) 0 facts-of (stepped-here e) a ∙ ap (λ k. total st (did st) + k) z,
-      )
-
-  elapse-grown : (n : ℕ) → Grown st (stepped st (Elapse n) .state) (ticksOf st (Elapse n))
-  elapse-grown n =
-      split
-      (refused (stepped st (Elapse n) .answer))
-      (λ y.
-      let e : stepped st (Elapse n) .state ≡ st =
-      ap (λ x. x .state) (stepped-sound st (Elapse n) s) ∙ refused-same (firstOf (tests st (Elapse n))) st n (rw (stepped-sound st (Elapse n) s) at y) in
-      rw (y, e) (omega arith, omega arith))
-      (λ m.
-      let a : (i : ℕ) → here st i ≡ true → Accounts st (stepped st (Elapse n) .state) n i = λ i u. accounts-by-elapse .0 st n i u m in
-      rw m (
-        gave-grows st (stepped st (Elapse n) .state) n facts-of (stepped-here (Elapse n)) a,
-        did-grows st (stepped st (Elapse n) .state) n facts-of (stepped-here (Elapse n)) a,
-      ))
-
-  step-grown : (e : Event) → Grown st (stepped st e .state) (ticksOf st e)
-  step-grown (Wake t) = others-grown (Wake t) (λ n q. let z : _≡_ {A = ℕ} 0 1 = cc in omega arith)
-  step-grown (Suspend t) = others-grown (Suspend t) (λ n q. let z : _≡_ {A = ℕ} 0 1 = cc in omega arith)
-  step-grown (Dispatch d) = others-grown (Dispatch d) (λ n q. let z : _≡_ {A = ℕ} 0 1 = cc in omega arith)
-  step-grown (Preempt d) = others-grown (Preempt d) (λ n q. let z : _≡_ {A = ℕ} 0 1 = cc in omega arith)
-  step-grown (Elapse n) = elapse-grown n
-  step-grown (Recharge d) = others-grown (Recharge d) (λ n q. let z : _≡_ {A = ℕ} 0 1 = cc in omega arith)
-  step-grown (Lock t r) = others-grown (Lock t r) (λ n q. let z : _≡_ {A = ℕ} 0 1 = cc in omega arith)
-  step-grown (Unlock t r) = others-grown (Unlock t r) (λ n q. let z : _≡_ {A = ℕ} 0 1 = cc in omega arith)
+step-grown : (st : State) → sound st ≡ true → (e : Event) → Grown st (stepped st e .state) (lasts st e)
+step-grown st s e =
+    let facts : Loose st = sound-facts st .holds s .is-loose in
+    let adds : (i : ℕ) → here st i ≡ true → Accounts st (stepped st e .state) (lasts st e) i = λ i u. event-adds st s i u e in
+    record {
+      given = gave-grows st (stepped st e .state) (lasts st e) facts (stepped-here st e) adds;
+      done = did-grows st (stepped st e .state) (lasts st e) facts (stepped-here st e) adds;
+      each = one-grows st (stepped st e .state) (lasts st e) facts (stepped-here st e) adds;
+    }
 
 -- a run
-run-grown : (st : State) → Shaped st → sound st ≡ true → (es : List Event) → Grown st (after move st es) (ticks st es)
+abbrev Totals : State → State → ℕ → Type 0
+Totals st next k = (total next (gave next) ≡ total st (gave st) + k) × (total next (did next) ≡ total st (did st) + k)
+
+run-totals : (st : State) → Shaped st → sound st ≡ true → (es : List Event) → Totals st (after move st es) (ticks st es)
 unfolding after ticks
-run-grown st shaped s [] = (omega arith, omega arith)
-run-grown st shaped s (e ∷ es) =
+run-totals st shaped s [] = (omega arith, omega arith)
+run-totals st shaped s (e ∷ es) =
     let k = kept st e shaped s in
     let one = step-grown st s e in
-    let rest = run-grown (stepped st e .state) (k .0) (k .1) es in
-    (omega (arith, one .0, rest .0), omega (arith, one .1, rest .1))
+    let rest = run-totals (stepped st e .state) (k .0) (k .1) es in
+    (omega (arith, one .given, rest .0), omega (arith, one .done, rest .1))
+
+run-each
+    : (st : State) → Shaped st → sound st ≡ true → (es : List Event) (t : ℕ) → here st t ≡ true
+    → did (after move st es) t ≡ did st t + ticksFor t st es
+unfolding after ticksFor
+run-each st shaped s [] t u = omega arith
+run-each st shaped s (e ∷ es) t u =
+    let k = kept st e shaped s in
+    omega (arith, step-grown st s e .each t u, run-each (stepped st e .state) (k .0) (k .1) es t (stepped-here st e t ∙ u))
+
+run-here : (st : State) (es : List Event) (t : ℕ) → here (after move st es) t ≡ here st t
+unfolding after
+run-here st [] t = refl
+run-here st (e ∷ es) t = run-here (stepped st e .state) es t ∙ stepped-here st e t
 
 -- nothing is spent in a fresh state: its clock is 0
-nothing : (st : State) → Loose st → st .clock ≡ 0 → (total st (gave st) ≡ 0) × (total st (did st) ≡ 0)
-nothing st facts zero-clock = (
-  sum-zero places _ (λ i l. split (here st i) (λ u. rw u (omega (arith, facts .accounts i u .1))) (λ n. rw n)),
-  sum-zero places _ (λ i l. split (here st i) (λ u. rw u (omega (arith, facts .accounts i u .0))) (λ n. rw n)),
-)
+module _ (st : State) (facts : Loose st) (zero-clock : st .clock ≡ 0) where
+  none-did : (t : ℕ) → here st t ≡ true → did st t ≡ 0
+  none-did t u = omega (arith, facts .accounts t u .0)
+
+  nothing : (total st (gave st) ≡ 0) × (total st (did st) ≡ 0)
+  nothing = (
+    sum-zero places _ (λ i l. split (here st i) (λ u. rw u (omega (arith, facts .accounts i u .1))) (λ n. rw n)),
+    sum-zero places _ (λ i l. split (here st i) (λ u. rw u (none-did i u)) (λ n. rw n)),
+  )
 
 fresh-clock : (tb : Table) → freshState tb .clock ≡ 0
 unfolding freshState
 fresh-clock tb = refl
 
-pub ticks-are : Ticks
-ticks-are tb a es =
-    let s = fresh-sound tb a in
-    let g = run-grown (freshState tb) (fresh-shaped tb) s es in
-    let z = nothing (freshState tb) (sound-facts (freshState tb) .holds s .is-loose) (fresh-clock tb) in
-    (omega (arith, g .0, g .1, z .0, z .1), omega (arith, g .1, z .1))
+module _ (tb : Table) (a : Accepted tb) (es : List Event) where
+  abbrev st : State
+  st = freshState tb
+
+  facts : Loose st
+  facts = sound-facts st .holds (fresh-sound tb a) .is-loose
+
+  pub ticks-are
+      : (total (reached tb es) (gave (reached tb es)) ≡ total (reached tb es) (did (reached tb es))) ×
+      (total (reached tb es) (did (reached tb es)) ≡ ticks st es)
+  ticks-are =
+      let g = run-totals st (fresh-shaped tb) (fresh-sound tb a) es in
+      let z = nothing st facts (fresh-clock tb) in
+      (omega (arith, g .0, g .1, z .0, z .1), omega (arith, g .1, z .1))
+
+  pub each-tick-once
+      : (t : ℕ) → here (reached tb es) t ≡ true
+      → (did (reached tb es) t ≡ ticksFor t st es) × (countTo places (executesIn (reached tb es) t) ≤ 1)
+  each-tick-once t u =
+      let used : here st t ≡ true = sym (run-here st es t) ∙ u in (
+        omega (arith, run-each st (fresh-shaped tb) (fresh-sound tb a) es t used, none-did st facts (fresh-clock tb) t used),
+        rw (servers-that-execute tb a es t u .0) (bit-le (executing (reached tb es) t)),
+      )

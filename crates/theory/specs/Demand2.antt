@@ -1,26 +1,23 @@
--- Demand 2 over runs from a fresh table. A statement about every list of events is one about the state after every event. Assumes nothing.
+-- Demand 2 as Always and Rules name it; promises/specs/Demand2 states it. Assumes nothing.
 use mathlib.Core.Path.{_≡_}
 use mathlib.Core.Bool.{true, false}
 use mathlib.Core.List.{List}
-use mathlib.Core.Logic.{_⊎_}
-use Prim.Native.Nat.{ℕ, suc, _+_, _<_, _≤_}
-use lib.Dec.{eqb}
-use Rattle.laws.specs.Tests.{if_then_else_, bit}
+use Prim.Native.Nat.{ℕ, suc}
+use Rattle.laws.specs.Tests.{bit}
 use Rattle.laws.specs.Loops.{countTo}
 use Rattle.laws.specs.Links.{Leads}
 use Rattle.reordering.specs.Run.{Never}
 use Rattle.model.specs.declared.State.{State}
 use Rattle.model.specs.declared.Table.{Table}
-use Rattle.model.specs.declared.ServerNo.{ServerNo}
 use Rattle.model.specs.declared.Event.{Event}
-use Rattle.model.specs.declared.Event.the-variants.{Dispatch, Elapse}
-use Rattle.model.specs.State.{places, nobody, serverAt, taskAt, here, present, next, served, runningAt, runningFor, executorOf, executing}
+use Rattle.model.specs.declared.Event.the-variants.{Dispatch}
+use Rattle.model.specs.State.{places, here, next, runningAt, runningFor, executing}
 use Rattle.model.specs.Sound.{sound}
 use Rattle.model.specs.Shape.{Shaped}
-use Rattle.model.specs.Fresh.{freshState}
-use Rattle.model.specs.Events.{acting, ownTicks, lentTicks, spinTicks}
+use Rattle.model.specs.Events.{acting}
 use Rattle.model.specs.Step.{stepped}
-use Rattle.theory.specs.Runs.{Accepted, reached, answers, refusedBy, Goes, executesIn, spins, Holds, ticks, ticksFor, total}
+use Rattle.theory.specs.Runs.{Accepted, reached, answers, refusedBy, Goes, executesIn, Holds}
+pub use Rattle.theory.specs.Rules.{RuleH}
 
 -- soundness is kept by every event, and so holds after every list from fresh
 abbrev pub Kept : Type 0
@@ -58,18 +55,6 @@ OneOwner =
 abbrev pub NoCycle : Type 0
 NoCycle = (tb : Table) → Accepted tb → (es : List Event) (t j : ℕ) → Leads places (next (reached tb es)) (suc j) t t → ⊥
 
--- Rule H after an accepted event: the three steps, and no choice left
-pub record RuleH (st after : State) (actor t : ℕ) : Type 0 where
-  pub keeps : runningFor after t (executorOf st t) ≡ true → executorOf after t ≡ executorOf st t
-  pub takes : runningFor after t (executorOf st t) ≡ false → runningFor after t actor ≡ true → executorOf after t ≡ actor
-  pub serves : executing after t ≡ true → runningFor after t (executorOf after t) ≡ true
-  pub some : (s : ℕ) → runningFor after t s ≡ true → executing after t ≡ true
-  pub best :
-      runningFor after t (executorOf st t) ≡ false → runningFor after t actor ≡ false →
-      (u : ℕ) → runningFor after t u ≡ true →
-      (serverAt after u .budget < serverAt after (executorOf after t) .budget) ⊎
-      ((serverAt after u .budget ≡ serverAt after (executorOf after t) .budget) × (executorOf after t ≤ u))
-
 abbrev pub RuleHAlways : Type 0
 RuleHAlways =
     (st : State) (e : Event) → Shaped st → sound st ≡ true → Goes st e → (t : ℕ) →
@@ -80,30 +65,3 @@ abbrev pub DispatchOnly : Type 0
 DispatchOnly =
     (st : State) (e : Event) (s : ℕ) →
     runningAt st s ≡ false → runningAt (stepped st e .state) s ≡ true → e ≡ Dispatch (record { 0 = s })
-
--- accounts: an elapse adds its ticks by who does what when it begins, and no other event touches them
-pub record Accounts (st after : State) (n i : ℕ) : Type 0 where
-  pub own : serverAt after i .own ≡ serverAt st i .own + (if executesIn st i i then n else 0)
-  pub lent : serverAt after i .lent ≡ serverAt st i .lent + lentTicks st n i
-  pub spin : serverAt after i .spin ≡ serverAt st i .spin + (if spins st i then n else 0)
-  pub executed : taskAt after i .executed ≡ taskAt st i .executed + (if executing st i then n else 0)
-
-abbrev pub AccountsByElapse : Type 0
-AccountsByElapse =
-    ((st : State) (n i : ℕ) → here st i ≡ true → Goes st (Elapse n) → Accounts st (stepped st (Elapse n) .state) n i) ×
-    ((st : State) (e : Event) (i : ℕ) → ((n : ℕ) → e ≡ Elapse n → ⊥) → Accounts st (stepped st e .state) 0 i)
-
--- conservation: what servers executed and lent is what tasks executed, and both are the ticks of the run
-abbrev pub Ticks : Type 0
-Ticks =
-    (tb : Table) → Accepted tb → (es : List Event) →
-    let st : State = reached tb es in
-    (total st (λ s. serverAt st s .own + serverAt st s .lent) ≡ total st (λ t. taskAt st t .executed)) ×
-    (total st (λ t. taskAt st t .executed) ≡ ticks (freshState tb) es)
-
--- the incident, excluded: what a task's record grew by is the ticks for which servers executed it, and that is one server at a time
-abbrev pub EachTickOnce : Type 0
-EachTickOnce =
-    (tb : Table) → Accepted tb → (es : List Event) (t : ℕ) →
-    here (reached tb es) t ≡ true →
-    (taskAt (reached tb es) t .executed ≡ ticksFor t (freshState tb) es) × (countTo places (executesIn (reached tb es) t) ≤ 1)

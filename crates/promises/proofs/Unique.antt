@@ -1,0 +1,57 @@
+-- Uniqueness of each entry point: each contract equates the answer, and the memory at exit, with a definition. Assumes nothing.
+use mathlib.Core.Path.{_≡_, refl, sym, _∙_}
+use Prim.Native.Nat.{ℕ, zero, suc}
+use Rattle.laws.proofs.Cases.{none-some}
+use Rattle.bound.specs.Numbered.{numbered}
+use Rattle.promises.specs.Unique.{EachUnique}
+
+-- a refusal's number is told by what it stands for, 0 for none
+numbered-one : (n m : ℕ) → numbered n ≡ numbered m → n ≡ m
+numbered-one zero zero e = refl
+numbered-one zero (suc m) e = none-some e
+numbered-one (suc n) zero e = none-some (sym e)
+numbered-one (suc n) (suc m) e = cc
+
+pub each-unique : EachUnique
+each-unique = record {
+  step = λ f g p q κ a. (p κ a .0 ∙ sym (q κ a .0), refl);
+  is-sound = λ f g p q κ a. (p κ a ∙ sym (q κ a), refl);
+  fresh = λ f g p q κ a. (p κ a .0 ∙ sym (q κ a .0), refl);
+  executing = λ f g p q κ a. (p κ a .0 ∙ sym (q κ a .0), refl);
+  chain-end = λ f g p q κ a. (p κ a ∙ sym (q κ a), refl);
+  bound = λ f g p q κ a. (p κ a ∙ sym (q κ a), refl);
+  table-refusal = λ f g p q κ a. (numbered-one _ _ (p κ a ∙ sym (q κ a)), refl);
+  read-text = λ f g p q κ a. (p κ a ∙ sym (q κ a), refl);
+  read-number = λ f g p q κ a. (p κ a ∙ sym (q κ a), refl);
+  table-to = λ f g p q κ a. (p κ a ∙ sym (q κ a), refl);
+  faulty-line = λ f g p q κ a. (p κ a ∙ sym (q κ a), refl);
+  read-record = λ f g p q κ a. (p κ a ∙ sym (q κ a), refl);
+  replay = λ f g p q κ a. (p κ a .0 ∙ sym (q κ a .0), p κ a .1 .0 ∙ sym (q κ a .1 .0));
+  file-buffer = λ f g p q κ a. (p κ a .0 ∙ sym (q κ a .0), refl);
+  text-buffer = λ f g p q κ a. (p κ a .0 ∙ sym (q κ a .0), refl);
+  read-image = λ f g p q κ a. (p κ a ∙ sym (q κ a), refl);
+  write-image = λ f g p q κ a. (p κ a .0 ∙ sym (q κ a .0), p κ a .1 ∙ sym (q κ a .1));
+  export-fresh = λ f g p q κ a. (p κ a .0 ∙ sym (q κ a .0), p κ a .1 ∙ sym (q κ a .1));
+  export-is-sound = λ f g p q κ a. (p κ a ∙ sym (q κ a), refl);
+  export-executing = λ f g p q κ a. (p κ a ∙ sym (q κ a), refl);
+  export-step = λ f g p q κ a. (p κ a .0 ∙ sym (q κ a .0), p κ a .1 ∙ sym (q κ a .1));
+  export-bound = λ f g p q κ a. (p κ a .0 ∙ sym (q κ a .0), p κ a .1 ∙ sym (q κ a .1));
+  export-replay = λ f g p q κ a. (p κ a .0 ∙ sym (q κ a .0), p κ a .1 ∙ sym (q κ a .1));
+  unusable-state = λ f g p q κ a. (p κ a ∙ sym (q κ a), refl);
+  in-use = λ f g p q κ a. (p κ a ∙ sym (q κ a), refl);
+  in-set = λ f g p q κ a. (p κ a ∙ sym (q κ a), refl);
+  is-idle = λ f g p q κ a. (p κ a ∙ sym (q κ a), refl);
+  is-active = λ f g p q κ a. (p κ a ∙ sym (q κ a), refl);
+  is-running = λ f g p q κ a. (p κ a ∙ sym (q κ a), refl);
+  is-recharging = λ f g p q κ a. (p κ a ∙ sym (q κ a), refl);
+  is-suspended = λ f g p q κ a. (p κ a ∙ sym (q κ a), refl);
+  is-waiting = λ f g p q κ a. (p κ a ∙ sym (q κ a), refl);
+  awaited-no = λ f g p q κ a. (p κ a ∙ sym (q κ a), refl);
+  is-owned = λ f g p q κ a. (p κ a ∙ sym (q κ a), refl);
+  owner-no = λ f g p q κ a. (p κ a ∙ sym (q κ a), refl);
+  is-placed = λ f g p q κ a. (p κ a ∙ sym (q κ a), refl);
+  place-no = λ f g p q κ a. (p κ a ∙ sym (q κ a), refl);
+  both = λ f g p q κ a. (p κ a ∙ sym (q κ a), refl);
+  either = λ f g p q κ a. (p κ a ∙ sym (q κ a), refl);
+  one-if = λ f g p q κ a. (p κ a ∙ sym (q κ a), refl);
+}

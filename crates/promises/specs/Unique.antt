@@ -1,0 +1,106 @@
+-- Uniqueness, of each entry point: what its contract leaves open is nothing. The statements are about the contracts themselves, as the kit reads them
+-- (`Post`): of the arguments, the answer, and the arguments at exit. A function of this table has no `requires`. Assumes nothing.
+use mathlib.Core.Path.{_≡_}
+use denote.Ref.{now}
+use Rattle.step.proofs.step.step.Reads as Step
+use Rattle.soundness.proofs.sound.is_sound.Reads as IsSound
+use Rattle.soundness.proofs.start.fresh.Reads as Fresh
+use Rattle.settle.proofs.query.executing.Reads as Executing
+use Rattle.chain.proofs.walk.chain_end.Reads as ChainEnd
+use Rattle.bound.proofs.answer.bound.Reads as Bound
+use Rattle.bound.proofs.table.table_refusal.Reads as TableRefusal
+use Rattle.bound_text.proofs.read.read.Reads as ReadText
+use Rattle.bound_text.proofs.read.number.Reads as ReadNumber
+use Rattle.bound_text.proofs.fault.table_to.Reads as TableTo
+use Rattle.bound_text.proofs.fault.faulty_line.Reads as FaultyLine
+use Rattle.trace.proofs.Place.read.Reads as ReadRecord
+use Rattle.listing.proofs.whole.replay.Reads as Replay
+use Rattle.listing.proofs.buffers.file_buffer.Reads as FileBuffer
+use Rattle.listing.proofs.buffers.text_buffer.Reads as TextBuffer
+use Rattle.image.proofs.reading.read.Reads as ReadImage
+use Rattle.image.proofs.writing.write.Reads as WriteImage
+use Rattle.exports.proofs.states.vesztamor_fresh.Reads as ExportFresh
+use Rattle.exports.proofs.states.vesztamor_is_sound.Reads as ExportIsSound
+use Rattle.exports.proofs.states.vesztamor_executing.Reads as ExportExecuting
+use Rattle.exports.proofs.stepping.vesztamor_step.Reads as ExportStep
+use Rattle.exports.proofs.bounds.vesztamor_bound.Reads as ExportBound
+use Rattle.exports.proofs.replaying.vesztamor_replay.Reads as ExportReplay
+use Rattle.model.proofs.blank.unusable_state.Reads as UnusableState
+use Rattle.model.proofs.entries.in_use.Reads as InUse
+use Rattle.model.proofs.entries.in_set.Reads as InSet
+use Rattle.model.proofs.entries.is_idle.Reads as IsIdle
+use Rattle.model.proofs.entries.is_active.Reads as IsActive
+use Rattle.model.proofs.entries.is_running.Reads as IsRunning
+use Rattle.model.proofs.entries.is_recharging.Reads as IsRecharging
+use Rattle.model.proofs.entries.is_suspended.Reads as IsSuspended
+use Rattle.model.proofs.entries.is_waiting.Reads as IsWaiting
+use Rattle.model.proofs.entries.awaited_no.Reads as AwaitedNo
+use Rattle.model.proofs.entries.is_owned.Reads as IsOwned
+use Rattle.model.proofs.entries.owner_no.Reads as OwnerNo
+use Rattle.model.proofs.entries.is_placed.Reads as IsPlaced
+use Rattle.model.proofs.entries.place_no.Reads as PlaceNo
+use Rattle.model.proofs.entries.both.Reads as Both
+use Rattle.model.proofs.entries.either.Reads as Either
+use Rattle.model.proofs.entries.one_if.Reads as OneIf
+
+-- Any two functions from the inputs to the answer and to the arguments at exit that meet the contract agree on every input: in the answer, which
+-- has the state where one is returned, and in the lent memory at exit. (κ are the lifetimes of what is lent.)
+abbrev pub UniqueLent
+    : {L : Type 0} {A R X : L → Type 0} {M : Type 0} (Post : (κ : L) → A κ → R κ → X κ → Type 0) (memory : (κ : L) → X κ → M) → Type 0
+UniqueLent {L} {A} {R} {X} {M} Post memory =
+    (f g : (κ : L) (a : A κ) → R κ × X κ) →
+    ((κ : L) (a : A κ) → Post κ a (f κ a .0) (f κ a .1)) →
+    ((κ : L) (a : A κ) → Post κ a (g κ a .0) (g κ a .1)) →
+    (κ : L) (a : A κ) → (f κ a .0 ≡ g κ a .0) × (memory κ (f κ a .1) ≡ memory κ (g κ a .1))
+
+-- the same where no memory is lent to be written
+abbrev pub Unique : {L : Type 0} {A R X : L → Type 0} (Post : (κ : L) → A κ → R κ → X κ → Type 0) → Type 0
+Unique Post = UniqueLent Post (λ κ x. tt {0})
+
+pub record EachUnique : Type 0 where
+  -- The layer: one step, the soundness test, the fresh state, what a server is doing, the end of a chain.
+  pub step : Unique Step.Post
+  pub is-sound : Unique IsSound.Post
+  pub fresh : Unique Fresh.Post
+  pub executing : Unique Executing.Post
+  pub chain-end : Unique ChainEnd.Post
+  -- The bound, its table, and its text.
+  pub bound : Unique Bound.Post
+  pub table-refusal : Unique TableRefusal.Post
+  pub read-text : Unique ReadText.Post
+  pub read-number : Unique ReadNumber.Post
+  pub table-to : Unique TableTo.Post
+  pub faulty-line : Unique FaultyLine.Post
+  -- Trace and replay: the buffer at exit is the replay's second argument.
+  pub read-record : Unique ReadRecord.Post
+  pub replay : UniqueLent Replay.Post (λ κ x. now (x .1 .0))
+  pub file-buffer : Unique FileBuffer.Post
+  pub text-buffer : Unique TextBuffer.Post
+  -- A state in lent bytes.
+  pub read-image : Unique ReadImage.Post
+  pub write-image : UniqueLent WriteImage.Post (λ κ x. now (x .1 .0))
+  -- The static library.
+  pub export-fresh : UniqueLent ExportFresh.Post (λ κ x. now (x .1 .0))
+  pub export-is-sound : Unique ExportIsSound.Post
+  pub export-executing : Unique ExportExecuting.Post
+  pub export-step : UniqueLent ExportStep.Post (λ κ x. now (x .0))
+  pub export-bound : UniqueLent ExportBound.Post (λ κ x. now (x .1 .1 .1 .0))
+  pub export-replay : UniqueLent ExportReplay.Post (λ κ x. now (x .1 .0))
+  -- The model's own tests and numbers, and the state of no use.
+  pub unusable-state : Unique UnusableState.Post
+  pub in-use : Unique InUse.Post
+  pub in-set : Unique InSet.Post
+  pub is-idle : Unique IsIdle.Post
+  pub is-active : Unique IsActive.Post
+  pub is-running : Unique IsRunning.Post
+  pub is-recharging : Unique IsRecharging.Post
+  pub is-suspended : Unique IsSuspended.Post
+  pub is-waiting : Unique IsWaiting.Post
+  pub awaited-no : Unique AwaitedNo.Post
+  pub is-owned : Unique IsOwned.Post
+  pub owner-no : Unique OwnerNo.Post
+  pub is-placed : Unique IsPlaced.Post
+  pub place-no : Unique PlaceNo.Post
+  pub both : Unique Both.Post
+  pub either : Unique Either.Post
+  pub one-if : Unique OneIf.Post
