@@ -1,8 +1,8 @@
 -- What an example says. Assumes nothing.
 use mathlib.Core.Path.{_≡_}
-use mathlib.Core.Bool.{true}
+use mathlib.Core.Bool.{Bool, true}
 use mathlib.Core.List.{List, [], _∷_, map}
-use Prim.Native.Nat.{ℕ}
+use Prim.Native.Nat.{ℕ, _+_}
 use Prim.Native.String.{String}
 use lib.ListN.{take}
 use Rattle.reordering.specs.Run.{after, log}
@@ -15,14 +15,22 @@ use Rattle.model.specs.declared.Table.{Table}
 use Rattle.model.specs.declared.Event.{Event}
 use Rattle.model.specs.declared.Answer.{Answer}
 use Rattle.model.specs.declared.Answer.the-variants.{Ok, Refused}
+use Rattle.model.specs.declared.Outcome.{Outcome}
+use Rattle.model.specs.declared.FreshOutcome.{FreshOutcome}
+use Rattle.model.specs.declared.Row.{Row}
 use Rattle.model.specs.Sound.{sound}
-use Rattle.model.specs.Fresh.{freshState}
+use Rattle.model.specs.Fresh.{freshState, freshOf}
 use Rattle.model.specs.Step.{stepped, move}
+use Rattle.model.specs.Meter.{metered}
+use Rattle.model.specs.Groups.{groupOf}
 use Rattle.bound.specs.declared.Sections.{Sections}
 use Rattle.bound.specs.declared.Bounded.{Bounded}
 use Rattle.bound.specs.Answer as bound
+use Rattle.trace.specs.declared.Read.{Read}
+use Rattle.trace.specs.Reading.{readAt}
 use Rattle.listing.specs.Text.{bytes}
 use Rattle.listing.specs.Listing.{listing}
+use Rattle.marked.specs.Clauses.{Clause, broken}
 
 pub data Example : Type 0 where
   -- a file, and what `replay` prints of it
@@ -35,6 +43,22 @@ pub data Example : Type 0 where
   refuses : Event → ℕ → Example
   -- the bound of a task of a table of sections, under an allowance
   bounds : Sections → ℕ → ℕ → Bounded → Example
+  -- a state that is sound, and breaks no clause
+  stands : State → Example
+  -- a state that breaks these clauses and no other; every event is refused with 1 on it, and leaves it
+  breaks : State → List Clause → Example
+  -- events on a state, each with the answer that it gets
+  replies : State → List (Event × Answer) → Example
+  -- the same, and the whole state to which they lead (two events: what the checker has to compare grows a hundredfold with each)
+  reaches : State → List (Event × Answer) → State → Example
+  -- the groups of a state's tasks and of the numbers after them, from 0 on
+  groups : State → List ℕ → Example
+  -- what fresh makes of a table
+  starts : Table → FreshOutcome → Example
+  -- what reading a file at a place gives
+  reads : List ℕ → ℕ → Read → Example
+  -- lent meter rows, the answer, and the rows afterwards
+  meters : State → List Row → Answer → List Row → Example
 
 -- the state after events from a fresh table
 abbrev pub lastState : Table → List Event → State
@@ -68,12 +92,32 @@ pub record Seen : Type 0 where
 abbrev pub seen : Table → List Event → Seen
 seen tb es = record { answer = lastAnswer tb es; servers = phases (lastState tb es); tasks = executors (lastState tb es) }
 
+-- a step that refuses all events with 1
+abbrev pub refusing1 : State → Event → Outcome
+refusing1 st e = record { answer = Refused 1; state = st }
+
+-- f 0, f 1, .., as many as the list has elements
+abbrev pub numbered : (ℕ → ℕ) → ℕ → List ℕ → List ℕ
+numbered f n [] = []
+numbered f n (x ∷ xs) = f n ∷ numbered f (n + 1) xs
+
+abbrev pub eventOf : Event × Answer → Event
+eventOf p = p .0
+
 abbrev pub Holds : Example → Type 0
 Holds (prints file text) = listing file ≡ bytes text
 Holds (leads tb es a ps rs) = seen tb es ≡ record { answer = a; servers = ps; tasks = rs }
 Holds (answers st e a) = stepped st e .answer ≡ a
 Holds (refuses e n) = (st : State) → sound st ≡ true → stepped st e ≡ record { answer = Refused n; state = st }
 Holds (bounds s t allowance b) = bound.answer s t allowance ≡ b
+Holds (stands st) = _≡_ {A = Bool × List Clause} (sound st, broken st) (true, [])
+Holds (breaks st cs) = _≡_ {A = List Clause × (Event → Outcome)} (broken st, stepped st) (cs, refusing1 st)
+Holds (replies st es) = log move st (map eventOf es) ≡ es
+Holds (reaches st es end) = _≡_ {A = List (Event × Answer) × State} (log move st (map eventOf es), after move st (map eventOf es)) (es, end)
+Holds (groups st gs) = numbered (groupOf st) 0 gs ≡ gs
+Holds (starts tb o) = freshOf tb ≡ o
+Holds (reads file at r) = readAt file at ≡ r
+Holds (meters st rows a new) = _≡_ {A = Answer × List Row} (metered st rows) (a, new)
 
 -- each of them holds
 infixr 10 _and_

@@ -1,4 +1,14 @@
 pub mod Trace
+pub mod Entries
+pub mod Clauses
 pub mod Example
 pub mod Marked
+pub mod Desk
+pub mod Runs
+pub mod States
+pub mod Answers
+pub mod Starts
+pub mod Traces
+pub mod Orders
+pub mod Bounds
 pub mod Further

@@ -6,6 +6,8 @@ use Rattle.model.specs.declared.Entry.{Entry}
 use Rattle.model.specs.declared.Table.{Table}
 use Rattle.model.specs.declared.Event.{Event}
 use Rattle.model.specs.declared.Event.the-variants.{Wake, Suspend, Dispatch, Preempt, Elapse, Recharge, Lock, Unlock}
+use Rattle.model.specs.declared.Answer.{Answer}
+use Rattle.model.specs.declared.Answer.the-variants.{Executes, Spins, Waits, Passed}
 use Rattle.model.specs.State.{places}
 use Rattle.model.specs.Fresh.{noEntry}
 
@@ -43,6 +45,19 @@ lock t r = Lock (record { 0 = t }) r
 
 abbrev pub unlock : ℕ → ℕ → Event
 unlock t r = Unlock (record { 0 = t }) r
+
+-- answers that tell a task, by bare numbers
+abbrev pub executes : ℕ → Answer
+executes t = Executes (record { 0 = t })
+
+abbrev pub spins : ℕ → Answer
+spins t = Spins (record { 0 = t })
+
+abbrev pub waits : ℕ → Answer
+waits t = Waits (record { 0 = t })
+
+abbrev pub passed : ℕ → Answer
+passed t = Passed (record { 0 = t })
 
 abbrev pub two : ℕ → List ℕ
 two n = n % 256 ∷ n / 256 % 256 ∷ []
