@@ -10,7 +10,7 @@ use Rattle.model.specs.State.{places, serverAt, taskAt, resourceAt, here, prese
 use Rattle.model.specs.Shape.{Shaped}
 use Rattle.model.specs.RuleH.{budgetAt, chosen, settled}
 use Rattle.model.specs.Events.{wokenServer, woken, restedServer, rested, slept, phased, elapsed, recharged, granted, freed, locked, unlocked, changed, acting}
-use Rattle.model.specs.Step.{tests, stateAfter}
+use Rattle.model.specs.Step.{tests, stateAfter, stepped}
 use Rattle.model.proofs.Sound.{Loose, sound-facts}
 use Rattle.model.proofs.Room.{executing-waits, executing-ended, unawaited, loose-queues}
 use Rattle.model.proofs.Chain.{here-below}
@@ -18,13 +18,15 @@ use Rattle.model.proofs.Chosen.{chosen-best}
 use Rattle.model.proofs.RuleH.{serving-below, settled-served, settled-for, settled-keeps, settled-hands, settled-chooses, settled-serves, settled-some}
 use Rattle.model.proofs.Grounds.{Grounds, grounds, unrefused-free}
 use Rattle.model.proofs.Variants.{running-is, suspended-is, ready-is}
-use Rattle.theory.specs.Demand2.{RuleH, RuleHAlways}
+use Rattle.model.specs.Sound.{sound}
 use Rattle.theory.proofs.Calm.{alike-served, Calm, loose-calm}
 use Rattle.theory.proofs.Frames.{heads-here, heads-kept, changed-shaped}
 use Rattle.theory.proofs.Serving.{put-alike, stirred-alike, elapsed-alike}
 use Rattle.theory.proofs.Locking.{quiet-served}
 use Rattle.theory.proofs.Outcomes.{stepped-sound, goes-none}
 use Rattle.theory.proofs.Readings.{for-running, for-served, running-here}
+use Rattle.theory.specs.Rules.{RuleH}
+use Rattle.theory.specs.Runs.{Goes}
 
 -- A task that executes: its server is Running and serves it, it waits for nobody, and it is ready
 module _ (st : State) (facts : Loose st) (t : ℕ) (runs : executing st t ≡ true) where
@@ -122,7 +124,9 @@ module _ (st : State) (e : Event) (shaped : Shaped st) (facts : Loose st) (g : G
     best = best;
   }
 
-pub rule-h-always : RuleHAlways
+pub rule-h-always
+    : (st : State) (e : Event) → Shaped st → sound st ≡ true → Goes st e → (t : ℕ) →
+    here st t ≡ true → RuleH st (stepped st e .state) (acting st e) t
 rule-h-always st e shaped s goes t used =
     let n : firstOf (tests st e) ≡ none = goes-none (firstOf (tests st e)) st e (rw (stepped-sound st e s) at goes) in
     rw (stepped-sound st e s, n) (rule-h st e shaped (sound-facts st .holds s .is-loose) (grounds st e (unrefused-free st e n)) t used)

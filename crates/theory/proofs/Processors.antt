@@ -10,12 +10,11 @@ use Rattle.theory.proofs.Declared.{Phase, Running, Recharging, ServerNo
 use Rattle.model.specs.State.{places, noServer, serverAt, here, running, runningAt}
 use Rattle.model.specs.RuleH.{settled}
 use Rattle.model.specs.Events.{withPhase, phased, runsOut, spentServer, changed, acting}
-use Rattle.model.specs.Step.{crowded, tests, stateAfter}
+use Rattle.model.specs.Step.{crowded, tests, stateAfter, stepped}
 use Rattle.model.proofs.Chain.{here-below}
 use Rattle.model.proofs.Sound.{Seated}
 use Rattle.model.proofs.RuleH.{settled-running}
 use Rattle.model.proofs.Grounds.{Grounds}
-use Rattle.theory.specs.Demand2.{DispatchOnly}
 use Rattle.theory.proofs.Frames.{heads-here, heads-kept, ServerMade, in-phase, refills, spends, server-after}
 use Rattle.theory.proofs.Outcomes.{stepped-has}
 
@@ -41,7 +40,9 @@ module _ (st : State) (e : Event) where
       (λ k. ⊎-elim (λ r. inl (and-both (here st s) _ used r)) (λ q. inr q) (ran s (k .1) now))
       (server-after st e s)
 
-pub dispatch-only : DispatchOnly
+pub dispatch-only
+    : (st : State) (e : Event) (s : ℕ) →
+    runningAt st s ≡ false → runningAt (stepped st e .state) s ≡ true → e ≡ Dispatch (record { 0 = s })
 unfolding stateAfter
 dispatch-only st e s before =
     stepped-has (λ x. runningAt x s ≡ true → e ≡ Dispatch (record { 0 = s })) st e (λ h. holds-fails h before)

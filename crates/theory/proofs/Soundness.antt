@@ -3,15 +3,16 @@
 -- `free` keeps a state loose and shaped (`free-kept`), a step keeps it sound (`kept`), and every state that a list of events reaches from a fresh
 -- table is sound (`sound-always`). From that: refusal 1 never comes, a task executes in one server and does where a Running server serves it, a
 -- resource has one owner, and waiting never goes in a circle. Assumes nothing.
-use Rattle.theory.proofs.Kit.{_≡_, refl, sym, _∙_, ap, true, true≢false, false, some, List, [], _∷_, ℕ, _<_, arith, eqb, eqb-true, eqb-false, eq-eqb}
+use Rattle.theory.proofs.Kit.{_≡_, refl, sym, _∙_, ap, true, true≢false, false, some, List, [], _∷_, ℕ, _<_, arith, eqb, eqb-true, eqb-false, eq-eqb, suc}
 use Rattle.laws.specs.Tests.{firstOf, without, bit}
 use Rattle.laws.specs.Loops.{countTo}
 use Rattle.laws.proofs.Cases.{split, holds-fails, unheld-fails, and-left, and-right, and-both}
 use Rattle.laws.proofs.Count.{count-zero, count-but-one}
 use Rattle.laws.proofs.Standing.{stands-points}
+use Rattle.laws.specs.Links.{Leads}
 use Rattle.reordering.specs.Run.{after, log, Each, Never}
 use Rattle.theory.proofs.Declared.{TaskNo, State, Event, Wake, Suspend, Dispatch, Preempt, Elapse, Recharge, Lock, Unlock, Table}
-use Rattle.model.specs.State.{places, taskAt, resourceAt, owned, ownerNo, served, here, placed, runningAt, runningFor, executorOf, executing, executes}
+use Rattle.model.specs.State.{places, taskAt, resourceAt, owned, ownerNo, served, here, placed, runningAt, runningFor, executorOf, executing, executes, next}
 use Rattle.model.specs.Shape.{Shaped}
 use Rattle.model.specs.Events.{firstWaiter, locked, unlocked, changed, acting}
 use Rattle.model.specs.Step.{endsAt, tests, stateAfter, free, stepped, move}
@@ -24,8 +25,7 @@ use Rattle.model.proofs.Grounds.{Grounds, grounds, unrefused-free}
 use Rattle.model.proofs.RuleH.{serving-below}
 use Rattle.model.proofs.Fresh.{fresh-sound, fresh-shaped}
 use Rattle.model.proofs.Variants.{number-owned}
-use Rattle.theory.specs.Runs.{Accepted, reached, refusedBy, executesIn, Holds}
-use Rattle.theory.specs.Demand2.{Kept, SoundAlways, NeverUnsound, OneServer, ServersThatExecute, OneOwner, NoCycle}
+use Rattle.theory.specs.Runs.{Accepted, reached, refusedBy, executesIn, Holds, answers}
 use Rattle.theory.proofs.Frames.{settled-shaped, changed-shaped}
 use Rattle.theory.proofs.Calm.{Calm, loose-calm, settled-loose}
 use Rattle.theory.proofs.Executing.{runs-ready, runs-ended, runs-for}
@@ -106,7 +106,7 @@ free-kept st e shaped facts =
     (λ h. after-loose st shaped facts e (grounds st e h))
 
 -- soundness is kept by every event,
-pub kept : Kept
+pub kept : (st : State) (e : Event) → Shaped st → sound st ≡ true → Shaped (stepped st e .state) × (sound (stepped st e .state) ≡ true)
 kept st e shaped s =
     rw (stepped-sound st e s)
     (outcome-has (λ x. Shaped x × (sound x ≡ true)) (firstOf (tests st e)) st e (shaped, s)
@@ -122,7 +122,7 @@ always st shaped s [] = s
 always st shaped s (e ∷ es) = let k = kept st e shaped s in always (stepped st e .state) (k .0) (k .1) es
 
 -- and so holds after every list from fresh
-pub sound-always : SoundAlways
+pub sound-always : (tb : Table) → Accepted tb → (es : List Event) → sound (reached tb es) ≡ true
 sound-always tb a es = always (freshState tb) (fresh-shaped tb) (fresh-sound tb a) es
 
 -- no event of such a list is refused for an unsound state
@@ -133,7 +133,7 @@ never st shaped s (e ∷ es) =
     let k = kept st e shaped s in
     (rw (stepped-sound st e s) (outcome-not 1 (firstOf (tests st e)) st e (no-test-1 st e)), never (stepped st e .state) (k .0) (k .1) es)
 
-pub never-unsound : NeverUnsound
+pub never-unsound : (tb : Table) → Accepted tb → (es : List Event) → Never (refusedBy 1) (answers tb es)
 never-unsound tb a es = never (freshState tb) (fresh-shaped tb) (fresh-sound tb a) es
 
 -- who executes t is the server that t has
@@ -143,14 +143,16 @@ executes-in st t s h =
     let e : served st s ≡ t = eqb-true _ t (and-right (executes st s) _ h) in
     ap (executorOf st) (sym e) ∙ eqb-true _ s (and-right (runningAt st s) _ (and-left (executes st s) _ h))
 
-pub one-server : OneServer
+pub one-server
+    : (tb : Table) → Accepted tb → (es : List Event) (t s u : ℕ) →
+    executesIn (reached tb es) t s ≡ true → executesIn (reached tb es) t u ≡ true → s ≡ u
 one-server tb a es t s u p q = sym (executes-in (reached tb es) t s p) ∙ executes-in (reached tb es) t u q
 
 -- waiting never goes in a circle
 facts-always : (tb : Table) → Accepted tb → (es : List Event) → Loose (reached tb es)
 facts-always tb a es = sound-facts (reached tb es) .holds (sound-always tb a es) .is-loose
 
-pub no-cycle : NoCycle
+pub no-cycle : (tb : Table) → Accepted tb → (es : List Event) (t j : ℕ) → Leads places (next (reached tb es)) (suc j) t t → ⊥
 no-cycle tb a es t j = open-unclosed (reached tb es) (facts-always tb a es .opens) t j
 
 -- at most one task owns a resource
@@ -195,12 +197,19 @@ module _ (st : State) (facts : Loose st) where
       (λ s l. unheld-fails _ (λ h. holds-fails (served-executes t s u (executes-for t s h)) n))
       ∙ sym (ap bit n))
 
-pub one-owner : OneOwner
+pub one-owner
+    : (tb : Table) → Accepted tb → (es : List Event) (t u r : ℕ) →
+    here (reached tb es) t ≡ true → here (reached tb es) u ≡ true →
+    Holds (reached tb es) t r → Holds (reached tb es) u r → t ≡ u
 one-owner tb a es t u r p q g h =
     let f = facts-always tb a es in
     sym (holder-owns (reached tb es) f t r p g) ∙ holder-owns (reached tb es) f u r q h
 
-pub servers-that-execute : ServersThatExecute
+pub servers-that-execute
+    : (tb : Table) → Accepted tb → (es : List Event) (t : ℕ) →
+    here (reached tb es) t ≡ true →
+    (countTo places (executesIn (reached tb es) t) ≡ bit (executing (reached tb es) t)) ×
+    ((s : ℕ) → runningFor (reached tb es) t s ≡ true → executing (reached tb es) t ≡ true)
 servers-that-execute tb a es t u =
     let f = facts-always tb a es in
     (servers-count (reached tb es) f t u, λ s h. served-executes (reached tb es) f t s u h)
