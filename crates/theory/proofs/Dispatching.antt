@@ -1,15 +1,7 @@
 -- Dispatch: the server spins where the task that it serves executes already, and executes it where not. Assumes nothing.
-use mathlib.Core.Path.{_≡_, refl, sym, ap, _∙_}
-use mathlib.Core.Bool.{true, false}
-use Prim.Native.Nat.{ℕ}
-use lib.Dec.{eqb}
-use borrow.Author.Tests.{eqb-true, eqb-false}
+use Rattle.theory.proofs.Kit.{_≡_, refl, sym, ap, _∙_, true, false, ℕ, eqb, eqb-true, eqb-false}
 use Rattle.laws.proofs.Cases.{split, holds-fails, unheld-fails}
-use Rattle.model.specs.declared.Phase.the-variants.{Running}
-use Rattle.model.specs.declared.Server.{Server}
-use Rattle.model.specs.declared.State.{State}
-use Rattle.model.specs.declared.Event.{Event}
-use Rattle.model.specs.declared.Event.the-variants.{Dispatch}
+use Rattle.theory.proofs.Declared.{Running, Server, State, Event, Dispatch}
 use Rattle.model.specs.State.{serverAt, here, running, served, runningAt, runningFor, executorOf, executing, executes}
 use Rattle.model.specs.Events.{withPhase, phased}
 use Rattle.model.specs.Step.{stateAfter, stepped}

@@ -1,17 +1,10 @@
 -- Elapse: Running servers spend, exhausted ones recharge, and what they executed goes on in the best Running server of its set, or nowhere.
 -- Assumes nothing.
-use mathlib.Core.Path.{_≡_, refl, sym, ap, _∙_}
-use mathlib.Core.Bool.{true, false}
-use Prim.Native.Nat.{ℕ, _+_}
-use native.Mathlib.Omega.{arith}
+use Rattle.theory.proofs.Kit.{_≡_, refl, sym, ap, _∙_, true, false, ℕ, _+_, arith}
 use native.Mathlib.Numerals.{unary-clauses}
 use Rattle.laws.proofs.Cases.{holds-fails, unheld-fails, and-left}
 use Rattle.laws.proofs.Set.{set-at}
-use Rattle.model.specs.declared.Phase.the-variants.{Recharging}
-use Rattle.model.specs.declared.Server.{Server}
-use Rattle.model.specs.declared.State.{State}
-use Rattle.model.specs.declared.Event.{Event}
-use Rattle.model.specs.declared.Event.the-variants.{Elapse}
+use Rattle.theory.proofs.Declared.{Recharging, Server, State, Event, Elapse}
 use Rattle.model.specs.State.{places, noTask, serverAt, taskAt, here, running, runningAt, runningFor, executorOf, executing, executes}
 use Rattle.model.specs.Events.{ownTicks, lentTicks, spinTicks, runsOut, spentServer, tickedTask, taskBy, eachServer, elapsed}
 use Rattle.model.specs.Step.{stateAfter, stepped}

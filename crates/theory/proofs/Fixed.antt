@@ -1,17 +1,8 @@
 -- Each rule of the paper fixes the whole next state: two states that it allows differ past the counts only. Entries are given one by one; with them
 -- every link and every chain end is, so that the best Running server of a set is the same one in both; and then the executors are. Assumes nothing.
-use mathlib.Core.Path.{_≡_, refl, sym, ap, _∙_}
-use mathlib.Core.Bool.{Bool, true, false}
-use mathlib.Core.Logic.{_⊎_, inl, inr, ⊎-elim}
-use Prim.Native.Nat.{ℕ, _+_}
-use lib.Dec.{eqb}
-use borrow.Author.Tests.{eqb-true, eqb-false}
+use Rattle.theory.proofs.Kit.{_≡_, refl, sym, ap, _∙_, Bool, true, false, _⊎_, inl, inr, ⊎-elim, ℕ, _+_, eqb, eqb-true, eqb-false}
 use Rattle.laws.proofs.Cases.{split, holds-fails}
-use Rattle.model.specs.declared.Phase.{Phase}
-use Rattle.model.specs.declared.Mode.the-variants.{Suspended, Ready, Waiting}
-use Rattle.model.specs.declared.Server.{Server}
-use Rattle.model.specs.declared.Task.{Task}
-use Rattle.model.specs.declared.State.{State}
+use Rattle.theory.proofs.Declared.{Phase, Suspended, Ready, Waiting, Server, Task, State}
 use Rattle.model.specs.State.{serverAt, taskAt, resourceAt, inUse, here, present, idle, recharging, suspended, awaited, ownerNo, ownerOf, next, served, runningAt, runningFor, executorOf, executing}
 use Rattle.model.specs.RuleH.{budgetAt, chosen, runsIn, withRuns}
 use Rattle.model.specs.Events.{withMode, runsOut, tickedTask, pushed, popped}

@@ -1,15 +1,6 @@
 -- A grant and a release with nobody waiting: nothing but the resource and the stack changes. Assumes nothing.
-use mathlib.Core.Path.{_≡_, refl, ap, _∙_}
-use mathlib.Core.Bool.{true, false}
-use Prim.Native.Nat.{ℕ}
-use borrow.Author.Tests.{eq-eqb, ne-eqb}
-use Rattle.model.specs.declared.Owner.the-variants.{Nobody, By}
-use Rattle.model.specs.declared.Server.{Server}
-use Rattle.model.specs.declared.Task.{Task}
-use Rattle.model.specs.declared.Resource.{Resource}
-use Rattle.model.specs.declared.State.{State}
-use Rattle.model.specs.declared.Event.{Event}
-use Rattle.model.specs.declared.Event.the-variants.{Lock, Unlock}
+use Rattle.theory.proofs.Kit.{_≡_, refl, ap, _∙_, true, false, ℕ, eq-eqb, ne-eqb}
+use Rattle.theory.proofs.Declared.{Nobody, By, Server, Task, Resource, State, Event, Lock, Unlock}
 use Rattle.model.specs.State.{taskAt, resourceAt, here, present, running, owned}
 use Rattle.model.specs.Events.{pushed, popped, withOwner, granted, locked, freed, unlocked, changed}
 use Rattle.model.specs.Step.{stateAfter, stepped}

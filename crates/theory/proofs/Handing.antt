@@ -1,27 +1,13 @@
 -- Unlock with a queue: what reached the releaser through the resource goes to the heir, the rest stays, and who executes. Assumes nothing.
-use mathlib.Core.Path.{_≡_, refl, sym, ap, _∙_}
-use mathlib.Core.Bool.{Bool, true, false, _&&_}
-use mathlib.Core.Logic.{_⊎_, inl, inr, ⊎-elim}
-use Prim.Native.Nat.{ℕ, zero, suc, _<_, _≤_}
-use native.Mathlib.Omega.{arith}
-use lib.Dec.{ltb, eqb}
-use lib.ListN.{getD, set, length-set}
-use borrow.Author.Tests.{eqb-true, eq-eqb, ne-eqb, le-ltb}
+use Rattle.theory.proofs.Kit.{_≡_, refl, sym, ap, _∙_, Bool, true, false, _&&_, _⊎_, inl, inr, ⊎-elim, ℕ, zero, suc, _<_, _≤_, arith, ltb, eqb, getD, set, length-set, eqb-true, eq-eqb, ne-eqb}
+use borrow.Author.Tests.{le-ltb}
 use Rattle.laws.specs.Tests.{if_then_else_, bit}
 use Rattle.laws.specs.Loops.{countTo}
 use Rattle.laws.specs.Links.{Leads}
 use Rattle.laws.proofs.Cases.{split, holds-fails, unheld-fails, and-left, and-right, and-both}
 use Rattle.laws.proofs.Count.{count-zero}
 use Rattle.laws.proofs.Lists.{getD-set}
-use Rattle.model.specs.declared.Mode.{Mode}
-use Rattle.model.specs.declared.Mode.the-variants.{Suspended, Ready, Waiting}
-use Rattle.model.specs.declared.Owner.the-variants.{By}
-use Rattle.model.specs.declared.Server.{Server}
-use Rattle.model.specs.declared.Task.{Task}
-use Rattle.model.specs.declared.Resource.{Resource}
-use Rattle.model.specs.declared.State.{State}
-use Rattle.model.specs.declared.Event.{Event}
-use Rattle.model.specs.declared.Event.the-variants.{Unlock}
+use Rattle.theory.proofs.Declared.{Mode, Suspended, Ready, Waiting, By, Server, Task, Resource, State, Event, Unlock}
 use Rattle.model.specs.State.{places, nobody, noTask, serverAt, taskAt, resourceAt, here, present, running, awaited, ownerNo, ownerOf, next, served, runningFor, executorOf, executing}
 use Rattle.model.specs.Sound.{heldAt}
 use Rattle.model.specs.Events.{withMode, withOwner, pushed, popped, dequeued, firstWaiter, passed, unlocked, changed, acting}

@@ -1,7 +1,6 @@
 -- What lies past the counts is not read, said by entries in use: they agree under labels that say what is in use. Assumes nothing.
-use mathlib.Core.Path.{_≡_, sym, _∙_}
-use Rattle.model.specs.declared.State.{State}
-use Rattle.model.specs.declared.Event.{Event}
+use Rattle.theory.proofs.Kit.{_≡_, sym, _∙_}
+use Rattle.theory.proofs.Declared.{State, Event}
 use Rattle.model.specs.Shape.{Shaped}
 use Rattle.model.specs.Step.{stepped}
 use Rattle.theory.specs.Runs.{SameInUse}

@@ -1,22 +1,8 @@
 -- Lock of an owned resource: what ended at the locker ends where the owner's chain ends, and who executes there. Assumes nothing.
-use mathlib.Core.Path.{_≡_, refl, sym, ap, _∙_}
-use mathlib.Core.Bool.{true, false, _||_}
-use mathlib.Core.List.{List}
-use mathlib.Core.Logic.{_⊎_, inl, inr, ⊎-elim}
-use Prim.Native.Nat.{ℕ, _<_, _≤_}
-use lib.Dec.{eqb}
-use borrow.Author.Tests.{eqb-true, eqb-false, eq-eqb, ne-eqb}
+use Rattle.theory.proofs.Kit.{_≡_, refl, sym, ap, _∙_, true, false, _||_, List, _⊎_, inl, inr, ⊎-elim, ℕ, _<_, _≤_, eqb, eqb-true, eqb-false, eq-eqb, ne-eqb}
 use Rattle.laws.specs.Tests.{if_then_else_}
 use Rattle.laws.proofs.Cases.{split, holds-fails, unheld-fails}
-use Rattle.model.specs.declared.Phase.{Phase}
-use Rattle.model.specs.declared.Phase.the-variants.{Idle, Active, Running, Recharging}
-use Rattle.model.specs.declared.Mode.the-variants.{Ready, Waiting}
-use Rattle.model.specs.declared.Server.{Server}
-use Rattle.model.specs.declared.Task.{Task}
-use Rattle.model.specs.declared.Resource.{Resource}
-use Rattle.model.specs.declared.State.{State}
-use Rattle.model.specs.declared.Event.{Event}
-use Rattle.model.specs.declared.Event.the-variants.{Lock}
+use Rattle.theory.proofs.Declared.{Phase, Idle, Active, Running, Recharging, Ready, Waiting, Server, Task, Resource, State, Event, Lock}
 use Rattle.model.specs.State.{places, serverAt, taskAt, resourceAt, here, present, idle, active, running, recharging, suspended, owned, ownerNo, ownerOf, next, served, runningAt, runningFor, executorOf, executing}
 use Rattle.model.specs.Events.{withServers, withPhase, withMode, enqueued, joined, restedServer, rested, eachServer, restedEnd, locked, changed, acting}
 use Rattle.model.specs.Step.{endsAt, stateAfter, stepped}

@@ -1,16 +1,10 @@
 -- Whom a server serves, by links: a chain that comes to its end comes there in no link or in some. So Λ of a task that is not blocked is its own
 -- server and those of the tasks that it blocks. Assumes nothing.
-use mathlib.Core.Path.{_≡_, refl, sym, ap, _∙_}
-use mathlib.Core.Bool.{true}
-use mathlib.Core.Logic.{_⊎_, inl, inr, ⊎-elim}
-use Prim.Native.Nat.{ℕ, zero, suc, _<_, _≤_}
-use lib.Dec.{ltb}
-use borrow.Author.Tests.{ltb-true, ltb-false}
+use Rattle.theory.proofs.Kit.{_≡_, refl, sym, ap, _∙_, true, _⊎_, inl, inr, ⊎-elim, ℕ, zero, suc, _<_, _≤_, ltb, ltb-true, ltb-false}
 use Rattle.laws.specs.Links.{walk, Leads}
 use Rattle.laws.proofs.Cases.{split, holds-fails}
 use Rattle.laws.proofs.Pigeonhole.{walk-ended, walk-linked, leads-walk}
-use Rattle.model.specs.declared.Phase.the-variants.{Idle}
-use Rattle.model.specs.declared.State.{State}
+use Rattle.theory.proofs.Declared.{Idle, State}
 use Rattle.model.specs.State.{places, serverAt, taskAt, here, idle, recharging, suspended, next, served}
 use Rattle.model.specs.Sound.{sound}
 use Rattle.model.proofs.Chain.{here-below, served-walk, end-itself}

@@ -1,13 +1,7 @@
 -- Preempt: the server is Active, and the task that it executed goes on in the best Running server of its set, or nowhere. Assumes nothing.
-use mathlib.Core.Path.{_≡_, refl, sym, ap, _∙_}
-use mathlib.Core.Bool.{true, false}
-use Prim.Native.Nat.{ℕ}
+use Rattle.theory.proofs.Kit.{_≡_, refl, sym, ap, _∙_, true, false, ℕ}
 use Rattle.laws.proofs.Cases.{holds-fails, unheld-fails}
-use Rattle.model.specs.declared.Phase.the-variants.{Active}
-use Rattle.model.specs.declared.Server.{Server}
-use Rattle.model.specs.declared.State.{State}
-use Rattle.model.specs.declared.Event.{Event}
-use Rattle.model.specs.declared.Event.the-variants.{Preempt}
+use Rattle.theory.proofs.Declared.{Active, Server, State, Event, Preempt}
 use Rattle.model.specs.State.{serverAt, here, running, runningFor, executorOf}
 use Rattle.model.specs.Events.{withPhase, phased}
 use Rattle.model.specs.Step.{stateAfter, stepped}

@@ -1,14 +1,7 @@
 -- Recharge: the server has its budget again, and nobody executes elsewhere for it. Assumes nothing.
-use mathlib.Core.Path.{_≡_, refl, sym, ap, _∙_}
-use mathlib.Core.Bool.{true, false}
-use Prim.Native.Nat.{ℕ}
+use Rattle.theory.proofs.Kit.{_≡_, refl, sym, ap, _∙_, true, false, ℕ}
 use Rattle.laws.proofs.Cases.{split, holds-fails, unheld-fails}
-use Rattle.model.specs.declared.Phase.{Phase}
-use Rattle.model.specs.declared.Phase.the-variants.{Idle, Active, Running, Recharging}
-use Rattle.model.specs.declared.Server.{Server}
-use Rattle.model.specs.declared.State.{State}
-use Rattle.model.specs.declared.Event.{Event}
-use Rattle.model.specs.declared.Event.the-variants.{Recharge}
+use Rattle.theory.proofs.Declared.{Phase, Idle, Active, Running, Recharging, Server, State, Event, Recharge}
 use Rattle.model.specs.State.{serverAt, taskAt, suspended, running, recharging, served}
 use Rattle.model.specs.Events.{refilled, rechargedPhase, recharged}
 use Rattle.model.specs.Step.{stateAfter, stepped}

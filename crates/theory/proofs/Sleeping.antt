@@ -1,22 +1,9 @@
 -- Suspend and wake: the whole set rests, the whole set is Active again. Assumes nothing.
-use mathlib.Core.Path.{_≡_, refl, sym, ap, _∙_}
-use mathlib.Core.Bool.{Bool, true, false, _||_}
-use mathlib.Core.Logic.{inl}
-use Prim.Native.Nat.{ℕ}
-use native.Mathlib.Omega.{arith}
-use lib.Dec.{eqb}
-use borrow.Author.Tests.{eqb-true, eqb-false, eq-eqb, ne-eqb}
+use Rattle.theory.proofs.Kit.{_≡_, refl, sym, ap, _∙_, Bool, true, false, _||_, inl, ℕ, arith, eqb, eqb-true, eqb-false, eq-eqb, ne-eqb}
 use Rattle.laws.specs.Tests.{if_then_else_}
 use Rattle.laws.proofs.Cases.{split, holds-fails, unheld-fails}
 use Rattle.laws.proofs.Lists.{getD-set}
-use Rattle.model.specs.declared.Phase.{Phase}
-use Rattle.model.specs.declared.Phase.the-variants.{Idle, Active, Running, Recharging}
-use Rattle.model.specs.declared.Mode.the-variants.{Suspended, Ready}
-use Rattle.model.specs.declared.Server.{Server}
-use Rattle.model.specs.declared.Task.{Task}
-use Rattle.model.specs.declared.State.{State}
-use Rattle.model.specs.declared.Event.{Event}
-use Rattle.model.specs.declared.Event.the-variants.{Wake, Suspend}
+use Rattle.theory.proofs.Declared.{Phase, Idle, Active, Running, Recharging, Suspended, Ready, Server, Task, State, Event, Wake, Suspend}
 use Rattle.model.specs.State.{noTask, serverAt, taskAt, here, idle, active, running, recharging, served, runningFor}
 use Rattle.model.specs.Events.{withTask, withPhase, refilled, withMode, eachServer, wakes, wokenServer, woken, rests, restedServer, rested, slept, changed}
 use Rattle.model.specs.Step.{stateAfter, stepped}

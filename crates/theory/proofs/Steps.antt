@@ -1,16 +1,9 @@
 -- The one way that the rules of the paper are proved: an event that no test refuses, in a sound state (`Way`). Servers, resources and tasks after it are
 -- those of the event's own change, but for where a task executes; and who executes is rule H. Assumes nothing.
-use mathlib.Core.Path.{_≡_, refl, sym, _∙_}
-use mathlib.Core.Bool.{true, false}
-use Prim.Native.Nat.{ℕ, _<_}
-use lib.ListN.{length}
+use Rattle.theory.proofs.Kit.{_≡_, refl, sym, _∙_, true, false, ℕ, _<_, length}
 use Rattle.laws.proofs.Cases.{split, holds-fails, unheld-fails}
 use Rattle.laws.proofs.Set.{set-at}
-use Rattle.model.specs.declared.Runs.{Runs}
-use Rattle.model.specs.declared.Runs.the-variants.{Nowhere, In}
-use Rattle.model.specs.declared.Task.{Task}
-use Rattle.model.specs.declared.State.{State}
-use Rattle.model.specs.declared.Event.{Event}
+use Rattle.theory.proofs.Declared.{Runs, Nowhere, In, Task, State, Event}
 use Rattle.model.specs.State.{nobody, noTask, serverAt, taskAt, resourceAt, here, present, running, placed, placeNo, served, runningAt, runningFor, executorOf, executing}
 use Rattle.model.specs.Shape.{Shaped}
 use Rattle.model.specs.RuleH.{budgetAt, chosen, settledTask, settled}

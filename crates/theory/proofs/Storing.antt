@@ -1,15 +1,8 @@
 -- An event that stores one server: dispatch, preempt and recharge. The rest stays, and the chain ends. Assumes nothing.
-use mathlib.Core.Path.{_≡_, refl, ap, _∙_}
-use mathlib.Core.Bool.{true}
-use Prim.Native.Nat.{ℕ}
-use native.Mathlib.Omega.{arith}
-use lib.Dec.{eqb}
-use borrow.Author.Tests.{eqb-true, eqb-false, eq-eqb, ne-eqb}
+use Rattle.theory.proofs.Kit.{_≡_, refl, ap, _∙_, true, ℕ, arith, eqb, eqb-true, eqb-false, eq-eqb, ne-eqb}
 use Rattle.laws.proofs.Cases.{split}
 use Rattle.laws.proofs.Lists.{getD-set}
-use Rattle.model.specs.declared.Server.{Server}
-use Rattle.model.specs.declared.State.{State}
-use Rattle.model.specs.declared.Event.{Event}
+use Rattle.theory.proofs.Declared.{Server, State, Event}
 use Rattle.model.specs.State.{noServer, serverAt, here, running, runningFor, executorOf}
 use Rattle.model.specs.Events.{withServer, changed}
 use Rattle.model.specs.Step.{stateAfter}

@@ -1,11 +1,6 @@
 -- When what leads to certain numbers comes to lead to one of them: what led there leads to that one, all else leads where it did. Said of links
 -- among the numbers below n. Assumes nothing.
-use mathlib.Core.Path.{_≡_, refl, sym, ap, _∙_}
-use mathlib.Core.Bool.{Bool, true, false}
-use Prim.Native.Nat.{ℕ, zero, suc, _<_}
-use native.Mathlib.Omega.{arith}
-use lib.Dec.{ltb, eqb}
-use borrow.Author.Tests.{ltb-true, ltb-false, eqb-true, eqb-false}
+use Rattle.theory.proofs.Kit.{_≡_, refl, sym, ap, _∙_, Bool, true, false, ℕ, zero, suc, _<_, arith, ltb, eqb, ltb-true, ltb-false, eqb-true, eqb-false}
 use Rattle.laws.specs.Links.{walk, Leads, Ended}
 use Rattle.laws.proofs.Cases.{split, holds-fails, unheld-fails}
 use Rattle.laws.proofs.Pigeonhole.{walk-ended, walk-linked}

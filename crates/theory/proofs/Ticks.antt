@@ -1,22 +1,15 @@
 -- Conservation: what servers executed and lent is what tasks executed, and both are the ticks of the run. Each task that executes has one server that
 -- executes it, so that both are counted alike; and of one task what its record grew by is the ticks for which servers executed it. Assumes nothing.
-use mathlib.Core.Path.{_≡_, refl, sym, ap, _∙_}
-use mathlib.Core.Bool.{Bool, true, false, not, _&&_}
-use mathlib.Core.List.{List, [], _∷_}
-use Prim.Native.Nat.{ℕ, zero, suc, _+_, _*_, _<_, _≤_}
+use Rattle.theory.proofs.Kit.{_≡_, refl, sym, ap, _∙_, Bool, true, false, not, _&&_, List, [], _∷_, ℕ, zero, suc, _+_, _<_, _≤_, arith, eqb, eq-eqb, ne-eqb}
+use Prim.Native.Nat.{_*_}
 use native.Mathlib.Nat.{mul-add, mul-one, mul-zero}
-use native.Mathlib.Omega.{arith}
-use lib.Dec.{eqb}
-use borrow.Author.Tests.{eq-eqb, ne-eqb}
 use Rattle.laws.specs.Tests.{if_then_else_, bit}
 use Rattle.laws.specs.Loops.{countTo, sumTo}
 use Rattle.laws.proofs.Cases.{split, holds-fails, unheld-fails, and-left}
 use Rattle.laws.proofs.Count.{bit-le, count-sum, count-zero, count-but-one}
 use Rattle.laws.proofs.Sum.{sum-ext, sum-add, sum-zero}
 use Rattle.reordering.specs.Run.{after}
-use Rattle.model.specs.declared.State.{State}
-use Rattle.model.specs.declared.Table.{Table}
-use Rattle.model.specs.declared.Event.{Event}
+use Rattle.theory.proofs.Declared.{State, Table, Event}
 use Rattle.model.specs.State.{places, serverAt, taskAt, here, served, runningAt, executing, executes}
 use Rattle.model.specs.Sound.{sound}
 use Rattle.model.specs.Shape.{Shaped}
