@@ -17,10 +17,9 @@ use Rattle.model.specs.Step.{stateAfter}
 use Rattle.model.proofs.Chain.{served-here}
 use Rattle.model.proofs.Sound.{Loose}
 use Rattle.model.proofs.Variants.{active-is}
-use Rattle.theory.proofs.Executing.{runs-for}
+use Rattle.theory.proofs.Executing.{runs-for, served-kept}
 use Rattle.model.proofs.Grounds.{Grounds}
 use Rattle.theory.proofs.Soundness.{served-executes}
-use Rattle.theory.proofs.Executing.{served-kept}
 use Rattle.theory.proofs.Steps.{after-here, after-server, after-for, executor-kept, executor-serves, executor-some}
 use Rattle.theory.proofs.Readings.{for-running, running-for, runs-at, rests-at, spins-by, executes-by}
 use Rattle.theory.proofs.Phased.{phased-self, phased-other}

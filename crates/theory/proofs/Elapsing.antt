@@ -14,11 +14,10 @@ use Rattle.model.specs.RuleH.{chosen}
 use Rattle.model.specs.Events.{runsOut, spentServer, elapsed}
 use Rattle.model.specs.Step.{stateAfter}
 use Rattle.model.proofs.Sound.{Loose}
-use Rattle.theory.proofs.Executing.{runs-for}
+use Rattle.theory.proofs.Executing.{runs-for, served-kept}
 use Rattle.theory.proofs.Serving.{each-at}
 use Rattle.model.proofs.Grounds.{Grounds}
 use Rattle.theory.proofs.Soundness.{served-executes}
-use Rattle.theory.proofs.Executing.{served-kept}
 use Rattle.theory.proofs.Steps.{nobody-serves, after-here, after-server, after-for, executor-chosen, executor-stays}
 use Rattle.theory.proofs.Readings.{for-running, running-here, rests-at}
 

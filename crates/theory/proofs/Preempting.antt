@@ -14,10 +14,9 @@ use Rattle.model.specs.Shape.{Shaped}
 use Rattle.model.specs.RuleH.{chosen}
 use Rattle.model.specs.Step.{stateAfter}
 use Rattle.model.proofs.Sound.{Loose}
-use Rattle.theory.proofs.Executing.{runs-for}
+use Rattle.theory.proofs.Executing.{runs-for, served-kept}
 use Rattle.model.proofs.Grounds.{Grounds}
 use Rattle.theory.proofs.Soundness.{served-executes}
-use Rattle.theory.proofs.Executing.{served-kept}
 use Rattle.theory.proofs.Steps.{nobody-serves, after-server, after-for, executor-chosen, executor-stays}
 use Rattle.theory.proofs.Readings.{for-running, rests-at}
 use Rattle.theory.proofs.Phased.{phased-self, phased-other}

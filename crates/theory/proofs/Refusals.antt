@@ -15,8 +15,7 @@ use Rattle.model.specs.Step.{tests, stateAfter, outcome, stepped}
 use Rattle.model.proofs.Sound.{Loose, sound-facts}
 use Rattle.theory.specs.Runs.{refusedBy, refused}
 use Rattle.model.proofs.Grounds.{Grounds, grounds, unrefused-free}
-use Rattle.theory.proofs.Outcomes.{stepped-sound, answered-not}
-use Rattle.theory.proofs.Outcomes.{goes-none}
+use Rattle.theory.proofs.Outcomes.{stepped-sound, answered-not, goes-none}
 
 refused-number : (n m : ℕ) → Refused n ≡ Refused m → n ≡ m
 refused-number n m h = cc

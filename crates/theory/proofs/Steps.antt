@@ -15,12 +15,10 @@ use Rattle.model.specs.Step.{stateAfter}
 use Rattle.model.proofs.Chosen.{chosen-alone}
 use Rattle.model.proofs.Sound.{Loose}
 use Rattle.model.proofs.RuleH.{settled-here, settled-for, settled-none, settled-chooses}
-use Rattle.theory.proofs.Frames.{heads-here, heads-present}
-use Rattle.theory.proofs.Frames.{heads-kept}
-use Rattle.theory.proofs.Executing.{runs-for}
+use Rattle.theory.proofs.Frames.{heads-here, heads-present, heads-kept}
+use Rattle.theory.proofs.Executing.{runs-for, now-here, inside, rule-h}
 use Rattle.model.proofs.Grounds.{Grounds}
 use Rattle.theory.proofs.Soundness.{served-executes}
-use Rattle.theory.proofs.Executing.{now-here, inside, rule-h}
 
 unplaced : (x : Runs) → placed x ≡ false → placeNo x ≡ nobody
 unplaced Nowhere e = refl

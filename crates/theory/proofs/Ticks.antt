@@ -31,10 +31,8 @@ use Rattle.model.proofs.RuleH.{serving-here, settled-here}
 use Rattle.theory.specs.Runs.{refused, executesIn, ticksOf, ticks, total}
 use Rattle.theory.specs.Demand2.{Accounts, Ticks}
 use Rattle.model.proofs.Fresh.{fresh-sound, fresh-shaped}
-use Rattle.theory.proofs.Frames.{heads-here}
-use Rattle.theory.proofs.Frames.{heads-kept}
-use Rattle.theory.proofs.Outcomes.{outcome-has}
-use Rattle.theory.proofs.Outcomes.{stepped-sound}
+use Rattle.theory.proofs.Frames.{heads-here, heads-kept}
+use Rattle.theory.proofs.Outcomes.{outcome-has, stepped-sound}
 use Rattle.theory.proofs.Soundness.{kept, executes-for, servers-count}
 use Rattle.theory.proofs.Accounts.{accounts-by-elapse}
 
