@@ -93,7 +93,7 @@ module _ (st : State) (shaped : Shaped st) (facts : Loose st) where
   changed-calm (Unlock t r) g = unlock-calm t r g
 
   -- an event that no test refuses, with rule H
-  pub after-loose : (e : Event) → Grounds st e → Shaped (stateAfter st e) × Loose (stateAfter st e)
+  after-loose : (e : Event) → Grounds st e → Shaped (stateAfter st e) × Loose (stateAfter st e)
   unfolding stateAfter
   after-loose e g =
       let d = changed-shaped st shaped e in
