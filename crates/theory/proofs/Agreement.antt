@@ -38,7 +38,7 @@ pub record Homed (l : Labels) (st : State) : Type 0 where
       l .of-resource r ≡ l .of-task (ownerNo (resourceAt st r .owner))
 
 module _ (l : Labels) where
-  pub agree-refl
+  agree-refl
       : (g : ℕ) (s : State) → length (s .server) ≡ places → length (s .task) ≡ places → length (s .resource) ≡ places → Agree l g s s
   agree-refl g s p q r =
       record {
@@ -100,13 +100,13 @@ module _ (l : Labels) where
     served-home t = end-home places t
 
     -- a server that serves t has its label, and no other serves it
-    pub serves-home : (b : Bool) (t x : ℕ) → (b && eqb (served st x) t) ≡ true → l .of-task x ≡ l .of-task t
+    serves-home : (b : Bool) (t x : ℕ) → (b && eqb (served st x) t) ≡ true → l .of-task x ≡ l .of-task t
     serves-home b t x h = sym (served-home x) ∙ ap (l .of-task) (eqb-true (served st x) t (and-right b _ h))
 
-    pub serves-not : (b : Bool) (t x : ℕ) → (l .of-task x ≡ l .of-task t → ⊥) → (b && eqb (served st x) t) ≡ false
+    serves-not : (b : Bool) (t x : ℕ) → (l .of-task x ≡ l .of-task t → ⊥) → (b && eqb (served st x) t) ≡ false
     serves-not b t x n = split (b && eqb (served st x) t) (λ y. absurd (n (serves-home b t x y))) (λ e. e)
 
-    pub for-home : (t x : ℕ) → runningFor st t x ≡ true → l .of-task x ≡ l .of-task t
+    for-home : (t x : ℕ) → runningFor st t x ≡ true → l .of-task x ≡ l .of-task t
     unfolding runningFor
     for-home t x h = serves-home (runningAt st x) t x h
 

@@ -56,7 +56,7 @@ module _ (a b : State) (same : Alike a b) where
   unfolding ownerOf
   alike-owner r = rw (alike-present r, alike-resource r, alike-here (ownerNo (resourceAt b r .owner)))
 
-  pub alike-next : (t : ℕ) → next a t ≡ next b t
+  alike-next : (t : ℕ) → next a t ≡ next b t
   unfolding next
   alike-next t = rw (alike-here t, same .task t .wants, alike-owner (awaited (taskAt b t .mode)))
 
@@ -116,7 +116,7 @@ pub record Calm (st : State) : Type 0 where
   pub locks : Locks st
   pub executed : Each st (λ i. taskAt st i .executed ≤ st .clock)
 
-pub loose-locks : (st : State) → Loose st → Locks st
+loose-locks : (st : State) → Loose st → Locks st
 loose-locks st h = record {
   declaration = h .declaration;
   stacks = loose-stacks st h;

@@ -312,7 +312,7 @@ module _
       task-left (gives t r d k q) = ap f q ∙ pop (taskAt st i)
       task-left (ticks n d k q) = ap f q ∙ ticked n i d
 
-      pub tasks-changed : f (taskAt (changed st e) i) ≡ f (taskAt st i)
+      tasks-changed : f (taskAt (changed st e) i) ≡ f (taskAt st i)
       tasks-changed = ⊎-elim (ap f) task-left (task-after st e i)
 
     pub tasks-left

@@ -78,7 +78,7 @@ module _ (l : Labels) (st : State) (good : Good l st) where
     resource-home r (given-up t d q) p = rw q (λ h. absurd (true≢false (sym h)))
     resource-home r (passed-on t d some q) p = rw q (λ h. heir-label r p some)
 
-    pub changed-home : Homed l (changed st e)
+    changed-home : Homed l (changed st e)
     changed-home =
         let counts = heads-kept st e in
         let hs = heads-here (changed st e) st (counts .1) (counts .2) in

@@ -8,7 +8,7 @@ use Rattle.theory.proofs.Kit.{_≡_, refl, sym, ap, _∙_, true, false,
 use lib.ListN.{getElem? as at}
 use Rattle.laws.specs.Tests.{firstOf, without}
 use Rattle.laws.specs.Loops.{bestTo, countTo}
-use Rattle.laws.proofs.Cases.{split, unheld-fails, holds-fails, first-without, and-left, and-right, and-both}
+use Rattle.laws.proofs.Cases.{split, unheld-fails, holds-fails, and-left, and-right, and-both}
 use Rattle.laws.proofs.Count.{count-ext}
 use Rattle.laws.proofs.Best.{best-is}
 use Rattle.reordering.specs.Order.{group, sees, Kind}
@@ -19,7 +19,7 @@ use Rattle.reordering.specs.Run.{after, log, Each, Never}
 use Rattle.reordering.proofs.Answer.{reorder-places}
 use Rattle.theory.proofs.Declared.{State, Event, Wake, Suspend, Dispatch, Preempt, Elapse, Recharge, Lock, Unlock, Ok, Answer, Outcome, Table}
 use Rattle.model.specs.State.{resourceAt, here, present, declares, owned, ownerNo, places, served, noServer, noTask, noResource, nobody, inSet}
-use Rattle.model.specs.Step.{tests, endsAt, topOf, answered, stateAfter, outcome, attempted, stepped, free, move}
+use Rattle.model.specs.Step.{tests, endsAt, topOf, answered, stateAfter, outcome, stepped, free, move}
 use Rattle.model.specs.Events.{wakes, rests, runsOut}
 use Rattle.model.specs.Sound.{sound}
 use Rattle.model.specs.Shape.{Shaped}
@@ -33,7 +33,7 @@ use Rattle.theory.specs.Runs.{refusedBy}
 use Rattle.theory.proofs.Agreement.{Labels, Agree, Homed, here-same, present-same, executing-same, executes-same, served-same, served-home, Good, good-home, agree-sym, agree-trans, Fits, good-self}
 use Rattle.theory.proofs.Locality.{kindBy, lock-label, unlock-label, owned-label, wakes-same, rests-same, after-same, after-left}
 use Rattle.theory.proofs.Groups.{fact-shares, linked-group}
-use Rattle.theory.proofs.Outcomes.{stepped-sound, outcome-has, outcome-not, no-test-1}
+use Rattle.theory.proofs.Outcomes.{stepped-sound, stepped-free, outcome-has, outcome-not, no-test-1}
 use Rattle.theory.proofs.Soundness.{free-kept, kept}
 use Rattle.theory.proofs.Frames.{declared-kept}
 use Rattle.theory.proofs.Steps.{after-here, after-present}
@@ -145,13 +145,13 @@ forProcessors a = refusedBy 1 a || refusedBy 8 a
 
 -- what is refused neither 1 nor 8 is free
 unlike : (st : State) (e : Event) → forProcessors (stepped st e .answer) ≡ false → stepped st e ≡ free st e
-unfolding stepped attempted free
+unfolding stepped
 unlike st e h =
     split
     (sound st)
     (λ y.
-    let k : forProcessors (outcome (firstOf (tests st e)) st e .answer) ≡ false = rw y at h in
-    rw y (ap (λ v. outcome v st e) (sym (first-without 8 (tests st e) (λ q. true≢false (rw q at k))))))
+    let k : forProcessors (outcome (firstOf (tests st e)) st e .answer) ≡ false = ap (λ o. forProcessors (o .answer)) (sym (stepped-sound st e y)) ∙ h in
+    stepped-free st e y (λ q. true≢false (rw q at k)))
     (λ n. holds-fails refl (rw n at h))
 
 module _ (l : Labels) where

@@ -28,7 +28,8 @@ use Rattle.model.proofs.Variants.{number-owned}
 use Rattle.theory.specs.Runs.{Accepted, reached, refusedBy, executesIn, Holds, answers}
 use Rattle.theory.proofs.Frames.{settled-shaped, changed-shaped}
 use Rattle.theory.proofs.Calm.{Calm, loose-calm, settled-loose}
-use Rattle.theory.proofs.Executing.{runs-ready, runs-ended, runs-for}
+use Rattle.theory.proofs.Readings.{for-running, for-served, running-for, running-here, executes-by}
+use Rattle.theory.proofs.Executing.{runs-ready, runs-ended, runs-for, runs-served}
 use Rattle.theory.proofs.Serving.{wake-calm, sleep-calm, dispatch-calm, preempt-calm, recharge-calm, elapse-calm}
 use Rattle.theory.proofs.Locking.{grant-calm, free-calm, wait-calm}
 use Rattle.theory.proofs.Passing.{pass-calm}
@@ -92,7 +93,7 @@ module _ (st : State) (shaped : Shaped st) (facts : Loose st) where
   changed-calm (Unlock t r) g = unlock-calm t r g
 
   -- an event that no test refuses, with rule H
-  pub after-loose : (e : Event) → Grounds st e → Shaped (stateAfter st e) × Loose (stateAfter st e)
+  after-loose : (e : Event) → Grounds st e → Shaped (stateAfter st e) × Loose (stateAfter st e)
   unfolding stateAfter
   after-loose e g =
       let d = changed-shaped st shaped e in
@@ -161,25 +162,20 @@ module _ (st : State) (facts : Loose st) where
   holder-owns t r u h = rw (← (h .there)) (stands-points (loose-stacks st facts) (here-below st) t (h .place) u (h .within))
 
   pub served-executes : (t s : ℕ) → here st t ≡ true → runningFor st t s ≡ true → executing st t ≡ true
-  unfolding runningFor runningAt executing
+  unfolding executing
   served-executes t s u h =
-      let r = and-left (runningAt st s) _ h in
-      let e = eqb-true _ t (and-right (runningAt st s) _ h) in
-      and-both (here st t) _ u (ap (λ x. placed (taskAt st x .runs)) (sym e) ∙ facts .serves s (and-left (here st s) _ r) r)
+      let r = for-running st t s h in
+      and-both (here st t) _ u (ap (λ x. placed (taskAt st x .runs)) (sym (for-served st t s h)) ∙ facts .serves s (running-here st s r) r)
 
   pub executes-for : (t s : ℕ) → executesIn st t s ≡ true → runningFor st t s ≡ true
-  unfolding executes runningFor
-  executes-for t s h = and-both (runningAt st s) _ (and-left (runningAt st s) _ (and-left (executes st s) _ h)) (and-right (executes st s) _ h)
+  unfolding executes
+  executes-for t s h = running-for st t s (and-left (runningAt st s) _ (and-left (executes st s) _ h)) (eqb-true _ t (and-right (executes st s) _ h))
 
   executor-executes : (t : ℕ) → executing st t ≡ true → executesIn st t (executorOf st t) ≡ true
-  unfolding executes runningFor
   executor-executes t runs =
-      let f = runs-for st facts t runs in
       let s = executorOf st t in
-      let e : served st s ≡ t = eqb-true _ t (and-right (runningAt st s) _ f) in
-      and-both (executes st s) _
-      (and-both (runningAt st s) _ (and-left (runningAt st s) _ f) (eq-eqb (executorOf st (served st s)) s (ap (executorOf st) e)))
-      (eq-eqb (served st s) t e)
+      let e = runs-served st facts t runs in
+      and-both (executes st s) _ (executes-by st s (for-running st t s (runs-for st facts t runs)) (ap (executorOf st) e)) (eq-eqb (served st s) t e)
 
   -- one server executes a task that executes, none one that does not
   pub servers-count : (t : ℕ) → here st t ≡ true → countTo places (executesIn st t) ≡ bit (executing st t)

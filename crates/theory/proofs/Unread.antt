@@ -43,7 +43,7 @@ module _ (l : Labels) (s u : State) (c : Covers l s) (a : Agree l 0 s u) where
   ps : (r : ℕ) → present s r ≡ present u r
   ps = present-same l 0 s u a
 
-  pub covers-both : Covers l u
+  covers-both : Covers l u
   covers-both = record { task = λ i h. c .task i (hs i ∙ h); resource = λ r p. c .resource r (ps r ∙ p) }
 
   server : (i : ℕ) → here u i ≡ true → serverAt s i ≡ serverAt u i
@@ -112,7 +112,7 @@ module _ (l : Labels) (s u : State) (c : Covers l s) (a : Agree l 0 s u) where
     accounts = λ i h. rw (← (task i h), ← (server i h), ← (a .clock-same)) (f .accounts i (hs i ∙ h));
   }
 
-  pub sound-both : sound s ≡ true → sound u ≡ true
+  sound-both : sound s ≡ true → sound u ≡ true
   sound-both y =
       let f = sound-facts s .holds y in
       sound-facts u .test
@@ -201,7 +201,7 @@ module _ (l : Labels) (s u : State) (c : Covers l s) (a : Agree l 0 s u) (shaped
       )
   outcomes e (some n) p q = (refl, a)
 
-  pub sound-unread : (e : Event) → Both (stepped s e) (stepped u e)
+  sound-unread : (e : Event) → Both (stepped s e) (stepped u e)
   sound-unread e =
       rw (stepped-sound s e y, stepped-sound u e (sound-both l s u c a y), ← (firsts e)) (outcomes e (firstOf (tests s e)) refl (sym (firsts e)))
 
