@@ -85,7 +85,7 @@ module _ (st : State) (lent : ℕ) where
   unfolding meterRefusal
   accepted-fit e = sound-facts st .holds (not-false _ (none-fails 1 (not (sound st)) _ e)) .is-loose .tasks-most
 
-  accepted-enough : meterRefusal st lent ≡ none → st .tasks ≤ lent
+  pub accepted-enough : meterRefusal st lent ≡ none → st .tasks ≤ lent
   unfolding meterRefusal
   accepted-enough e = ltb-false lent (st .tasks) (none-fails 22 (ltb lent (st .tasks)) _ (none-later 1 (not (sound st)) _ e))
 

@@ -1,1 +1,3 @@
 pub mod Decided
+pub mod Metered
+pub mod Walk

@@ -6,6 +6,7 @@ ghost use Rattle.model.specs.Meter.{metered};
 ghost use Rattle.meter.specs.Decided.{meterSaid};
 use model::Answer;
 use model::Row;
+use model::ServerNo;
 use model::State;
 
 // Row s becomes server s's for each task, the others stay, and the answer says how many; a refusal leaves all as they came.
@@ -14,12 +15,12 @@ pub fn fill(st: State, rows: &mut [Row]) -> Answer
     ensures rows { λ _. ⌜ now (rows .exit) ≡ metered st (now (rows .entry)) .1 ⌝ }
     ensures said { λ r. ⌜ said r ≡ meterSaid st (length (now (rows .entry))) ⌝ }
 {
-    let answer = crate::entries::decided(st, rows.len());
-    let n = crate::entries::rows_in(answer);
-    let mut s: usize = 0;
+    let answer = crate::answer::decided(st, rows.len());
+    let n = crate::answer::rows_written(answer);
+    let mut s: u16 = 0;
     while s < n {
-        let row = crate::entries::row_at(st, s);
-        rows[s] = row;
+        let row = crate::row::row_of(st, ServerNo(s));
+        rows[s as usize] = row;
         s += 1;
     }
     answer

@@ -1,4 +1,4 @@
--- `meter::entries::row_at` meets its contract: past the sixteen places the array is read as an idle server. Assumes nothing.
+-- `meter::row::row_of` meets its contract: past the sixteen places the array is read as an idle server. Assumes nothing.
 use mathlib.Core.Path.{_≡_, sym}
 use Prim.Native.Nat.{ℕ, _≤_}
 use native.Mathlib.Omega.{arith}
@@ -7,8 +7,8 @@ use borrow.Author.Needs.{needs}
 use Rattle.model.specs.declared.State.{State}
 use Rattle.model.specs.State.{places, noServer}
 use Rattle.model.specs.Meter.{rowOf, noRow}
-use Rattle.meter.proofs.entries.row_at.Statement.{statement}
-use Rattle.meter.proofs.entries.row_at.Tie as tie
+use Rattle.meter.proofs.row.row_of.Statement.{statement}
+use Rattle.meter.proofs.row.row_of.Tie as tie
 
 row-past : (st : State) (i : ℕ) → length (st .server) ≡ places → places ≤ i → noRow ≡ rowOf st i
 unfolding rowOf
@@ -19,7 +19,7 @@ unfolding rowOf
 returns c = search needs
 
 returns-2 : tie.Need-returns-2
-returns-2 c = row-past _ _ (simp length-map at (c .before .good .0 .1 .1 .1 .1 .1 .1 .0 .1 .0 .1)) (c .if1 .left)
+returns-2 c = row-past _ _ (simp length-map at (c .before .before .good .0 .1 .1 .1 .1 .1 .1 .0 .1 .0 .1)) (c .if1 .left)
 
-pub row-at-spec : {M : Type 1} → statement M
-row-at-spec = tie.close (tie.spec (λ c. search needs) (λ c. search needs) returns returns-2)
+pub row-of-spec : {M : Type 1} → statement M
+row-of-spec = tie.close (tie.spec (λ c. search needs) (λ c. search needs) (λ c. search needs) returns returns-2)
