@@ -2,18 +2,18 @@
 -- In a sound state the numbers in use are those below the tasks, so that the first rows, as many as tasks, are the rows of the numbers in use.
 -- Assumes nothing.
 use mathlib.Core.Path.{_≡_, refl, sym, ap, _∙_}
-use mathlib.Core.Bool.{Bool, true, false, not, _&&_}
+use mathlib.Core.Bool.{true, false, not}
 use mathlib.Core.List.{List}
 use mathlib.Core.Option.{Option, none, some}
-use Prim.Native.Nat.{ℕ, zero, suc, _<_, _≤_}
+use Prim.Native.Nat.{ℕ, zero, suc, _<_, _≤_, min}
 use native.Mathlib.Omega.{arith}
 use lib.Dec.{ltb}
 use lib.ListN.{length, getD}
 use lib.Seq.{ext-getD}
 use borrow.Author.Tests.{lt-ltb, le-ltb, ltb-true, ltb-false, not-false}
-use Rattle.laws.specs.Tests.{if_then_else_, _when_or_, accepted, firstOf, bit}
+use Rattle.laws.specs.Tests.{if_then_else_, firstOf}
 use Rattle.laws.specs.Loops.{countTo, setTo}
-use Rattle.laws.proofs.Cases.{split, first-yes, first-no, none-fails, none-later}
+use Rattle.laws.proofs.Cases.{split, none-fails, none-later}
 use Rattle.laws.proofs.Count.{count-ext}
 use Rattle.laws.proofs.Set.{length-setTo, set-cases}
 use Rattle.model.specs.declared.State.{State}
@@ -21,25 +21,20 @@ use Rattle.model.specs.declared.Row.{Row}
 use Rattle.model.specs.declared.Answer.the-variants.{Ok}
 use Rattle.model.specs.State.{places, here}
 use Rattle.model.specs.Sound.{sound}
-use Rattle.model.specs.Said.{ok, refused, said}
+use Rattle.model.specs.Said.{said}
 use Rattle.model.specs.Meter.{rowOf, noRow, meteredRow, meteredRows, meterRefusal, meterBy, metered}
 use Rattle.model.proofs.Sound.{sound-facts}
 use Rattle.meter.specs.Decided.{decidedBy, decidedOn, written, meterSaid}
 
 -- of the numbers below n, as many are below m as m says, or all
-count-all : (n m : ℕ) → n ≤ m → countTo n (λ i. ltb i m) ≡ n
+count-below : (n m : ℕ) → countTo n (λ i. ltb i m) ≡ min n m
 unfolding countTo
-count-all zero m l = refl
-count-all (suc n) m l = omega (arith, count-all n m (omega arith), ap bit (lt-ltb n m l))
-
-count-below : (n m : ℕ) → m ≤ n → countTo n (λ i. ltb i m) ≡ m
-unfolding countTo
-count-below zero m l = omega arith
-count-below (suc n) m l =
+count-below zero m = omega arith
+count-below (suc n) m =
     split
     (ltb n m)
-    (λ y. omega (arith, count-all n m (omega (arith, ltb-true n m y)), ap bit y, ltb-true n m y))
-    (λ f. omega (arith, count-below n m (ltb-false n m f), ap bit f))
+    (λ y. rw y (omega (arith, ltb-true n m y, count-below n m)))
+    (λ f. rw f (omega (arith, ltb-false n m f, count-below n m)))
 
 module _ (st : State) (fit : st .tasks ≤ places) where
   here-is : (i : ℕ) → here st i ≡ ltb i (st .tasks)
@@ -47,7 +42,7 @@ module _ (st : State) (fit : st .tasks ≤ places) where
   here-is i = split (ltb i places) (λ y. rw y) (λ f. rw (f, le-ltb i (st .tasks) (omega (arith, ltb-false i places f))))
 
   tasks-counted : countTo places (here st) ≡ st .tasks
-  tasks-counted = count-ext places (here st) _ (λ i l. here-is i) ∙ count-below places (st .tasks) fit
+  tasks-counted = omega (arith, count-ext places (here st) _ (λ i l. here-is i), count-below places (st .tasks))
 
   row-chosen
       : (rows : List Row) (i : ℕ)

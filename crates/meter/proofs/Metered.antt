@@ -1,15 +1,14 @@
--- What the contract of `meter::rows::fill` promises a caller, of any function that meets it: a refusal writes nothing, server s's row is what document 01
--- says, every other row stays, and there is one such function. Assumes nothing.
+-- What the contract of `meter::rows::fill` promises, of any function that meets it: a refusal writes nothing, row s receives server s's, every other row
+-- stays, and there is one such function. Assumes nothing.
 use mathlib.Core.Path.{_≡_, refl, sym, ap, _∙_}
 use mathlib.Core.Bool.{true, false}
 use mathlib.Core.List.{List}
 use mathlib.Core.Option.{Option, none, some}
-use Prim.Native.Nat.{ℕ, _<_, _≤_}
+use Prim.Native.Nat.{ℕ, _≤_}
 use native.Mathlib.Omega.{arith}
 use lib.Dec.{ltb}
 use lib.ListN.{length, getD, List·getD-eq-default}
 use borrow.Author.Tests.{ltb-true, ltb-false}
-use Rattle.laws.specs.Tests.{if_then_else_}
 use Rattle.laws.specs.Loops.{setTo}
 use Rattle.laws.proofs.Cases.{split}
 use Rattle.laws.proofs.Set.{length-setTo, set-at, set-cases}

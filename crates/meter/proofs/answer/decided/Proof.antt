@@ -1,8 +1,8 @@
 -- `meter::answer::decided` meets its contract. Assumes nothing.
-use mathlib.Core.Path.{sym, ap, _∙_}
+use mathlib.Core.Path.{sym, _∙_}
 use borrow.Author.Needs.{needs}
 use borrow.Author.Tests.{not-true, not-false}
-use Rattle.meter.specs.Decided.{decidedBy, decidedOn}
+use Rattle.meter.specs.Decided.{decidedOn}
 use Rattle.meter.proofs.Decided.{refused-unsound, refused-few, refused-none}
 use Rattle.meter.proofs.answer.decided.Statement.{statement}
 use Rattle.meter.proofs.answer.decided.Tie as tie

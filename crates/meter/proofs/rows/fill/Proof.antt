@@ -1,7 +1,7 @@
 -- `meter::rows::fill` meets its contract: a walk of its MIR by hand, since the borrow checker covers no lent slice of structs.
--- The borrow is opened once, before the calls, and closed once, after the loop. In between the rows are `stored i`, the first i of them the servers' and
--- the others as they came; `begins` enters and opens, `decides-first` makes the two calls before the loop, `more` is a turn, `ends` the turn that leaves
--- the loop and the return, `exits` what the contract asks there. What the decided answer and number have to do with document 01 is proofs/Decided.antt's.
+-- The borrow is opened once, before the calls, and closed once, after the loop. In between the rows are `stored i`: the first i are the servers', the
+-- others as they came. `begins` enters and opens, `decides-first` makes the two calls before the loop, `more` is a turn, `ends` the turn that leaves the
+-- loop and the return, `exits` what the contract asks there. That what is decided and stored is document 01's metering is shown in proofs/Decided.antt.
 -- Assumes nothing.
 mod Callees
 use mathlib.Core.Path.{_≡_, refl, sym, ap, subst, _∙_}
@@ -85,7 +85,7 @@ use Rattle.meter.proofs.rows.fill as f
 use Rattle.meter.proofs.rows.fill.Statement as stated
 use Rattle.meter.proofs.rows.fill.Code as code
 use Rattle.meter.proofs.rows.fill.Code.Mir as m
-use Rattle.meter.proofs.rows.fill.Proof.Callees.{StateT, NumberT, RowT, AnswerT, number, number-val, number-is, Decided, RowsWritten, RowOf, to-decided, decided-asks, to-rows-written, rows-written-asks, to-row-of, row-of-asks, Decides, decides, Counts, counts, Gives, gives}
+use Rattle.meter.proofs.rows.fill.Proof.Callees.{StateT, NumberT, RowT, AnswerT, number, number-is, Decided, RowsWritten, RowOf, to-decided, decided-asks, to-rows-written, rows-written-asks, to-row-of, row-of-asks, Decides, decides, Counts, counts, Gives, gives}
 
 abbrev stayed : Stays (f.ended .signature .params) (f.ended .kept)
 stayed = (stay-none (λ _. StateT) yes, (stay-slice (0 ∷ []) tt (plain (λ _. RowT)), tt))
@@ -110,7 +110,8 @@ three 𝓤 P φ ψ χ =
 
 module _
     {M : Type 1} (𝓤 : URA M) (H : Heap 𝓤) (A : Atoms 𝓤) (W : Given 𝓤 H A) (mem : Memory → SProp 𝓤) (run : Routine → Fun 𝓤)
-    (κ : Lft) (q : Share) (b o : ℕ) (γ : GName) (st : State) (ys : List Row) (mach : Val) (good : Is StateT st (mach ∷ [])) (room : Room RowT (length ys)) where
+    (κ : Lft) (q : Share) (b o : ℕ) (γ : GName) (st : State) (ys : List Row) (mach : Val)
+    (good : Is StateT st (mach ∷ [])) (room : Room RowT (length ys)) where
   -- the rows, lent at the list zs; the arguments and their machine values
   abbrev lent : List Row → RefT (List Row)
   lent zs = record { ptr = (b, o); name = γ; now = zs }
@@ -157,7 +158,8 @@ module _
 
   module _
       (𝓣 : Tables 𝓤 H) (known-decided : Triple 𝓤 (𝓣 .C #decided) (Decided 𝓤 H A mem run))
-      (known-rows-written : Triple 𝓤 (𝓣 .C #rows-written) (RowsWritten 𝓤 H A mem run)) (known-row-of : Triple 𝓤 (𝓣 .C #row-of) (RowOf 𝓤 H A mem run)) where
+      (known-rows-written : Triple 𝓤 (𝓣 .C #rows-written) (RowsWritten 𝓤 H A mem run))
+      (known-row-of : Triple 𝓤 (𝓣 .C #row-of) (RowOf 𝓤 H A mem run)) where
     abbrev C : Calls 𝓤 H
     C = 𝓣 .C
 
@@ -173,7 +175,8 @@ module _
           (spelled AnswerT, l₀) ∷ (spelled StateT, l₁) ∷ (slice, l₂) ∷ (spelled AnswerT, l₃) ∷ (tyInt w16, l₄) ∷ (tyInt w16, l₅) ∷ (spelled RowT, l₆)
           ∷ (tyInt w64, l₇) ∷ (tyBool, l₈) ∷ (spelled NumberT, l₉) ∷ (tyInt w64, l₁₀) ∷ (tyInt w64, l₁₁) ∷ (tyPtr, l₁₂) ∷ []
 
-      -- five items in front: the borrow, opened at the list zs, and the state. Then what a turn makes and drops (_12 to _8, _6) and the rows' number (_7)
+      -- five items in front: the borrow, opened at the list zs, and the state. Then what a turn makes and drops (_12 to _8, _6),
+      -- and how many rows are lent (_7)
       abbrev Opened : List Row → List (Item 𝓤) → List (Item 𝓤)
       Opened zs Γ =
           ‵ (row RowT fullShare zs b o) ∷ ‵ (fobor κ q (Held RowT (length ys) b o γ)) ∷ ‵ (fobs γ (codedHoleys RowT .code (heres RowT ys)))
@@ -184,13 +187,15 @@ module _
           ∷ ‵ (froom (spelled RowT) l₆ 0) ∷ ‵ (fdies (spelled RowT) l₆) ∷ Γ
 
       -- the parameters, and room for the result
-      abbrev Given′ : List (Item 𝓤)
-      Given′ =
+      abbrev Passed : List (Item 𝓤)
+      Passed =
           ‵ (fat fullShare slice l₂ 0 (sliceVal (b, o) (length ys))) ∷ ‵ (fdies slice l₂) ∷ ‵ (fat fullShare (spelled StateT) l₁ 0 mach)
           ∷ ‵ (fdies (spelled StateT) l₁) ∷ ‵ (froom (spelled AnswerT) l₀ 0) ∷ ‵ (fdies (spelled AnswerT) l₀) ∷ []
 
       -- the loop, for the answer a and the number n of rows to store
-      module _ (a : Answer) (v : Val) (is : Is AnswerT a (v ∷ [])) (a-is : a ≡ decidedOn st (length ys)) (n : ℕ) (n-fits : n < 2 ^ 16) (n-is : n ≡ written a) where
+      module _
+          (a : Answer) (v : Val) (is : Is AnswerT a (v ∷ [])) (a-is : a ≡ decidedOn st (length ys))
+          (n : ℕ) (n-fits : n < 2 ^ 16) (n-is : n ≡ written a) where
         n-decided : n ≡ written (decidedOn st (length ys))
         n-decided = n-is ∙ ap written a-is
 
@@ -202,7 +207,7 @@ module _
         At i =
             Opened (stored i)
             (‵ (fat fullShare (tyInt w16) l₅ 0 (vint w16 i)) ∷ ‵ (fdies (tyInt w16) l₅) ∷ ‵ (fat fullShare (tyInt w16) l₄ 0 (vint w16 n))
-            ∷ ‵ (fdies (tyInt w16) l₄) ∷ ‵ (fat fullShare (spelled AnswerT) l₃ 0 v) ∷ ‵ (fdies (spelled AnswerT) l₃) ∷ Given′)
+            ∷ ‵ (fdies (tyInt w16) l₄) ∷ ‵ (fat fullShare (spelled AnswerT) l₃ 0 v) ∷ ‵ (fdies (spelled AnswerT) l₃) ∷ Passed)
 
         abbrev Inv : ℕ → SProp 𝓤
         Inv t = ex 𝓤 (λ (i : ℕ). guard 𝓤 (i + t ≡ n) (⋆ 𝓤 H A (At i)))
@@ -231,7 +236,8 @@ module _
             stays ! (local ! (at 5 8) refl) $
             sets ! (at 5 9) refl (agg ! (and-then ! (local ! (at 5 5) refl) (no-more !)))
             (struct.lawful server-no.the-type server-no-laws.the-laws 𝓤 H A W .typed (number i) _ (number-is i fits) .0) $
-            calls ! fm (RowOf 𝓤 H A mem run) known-row-of (to-row-of 𝓤 H A mem run W st mach good i) RowT (Gives 𝓤 H A mem run st i) (λ r. r ≡ rowOf st i)
+            calls ! fm (RowOf 𝓤 H A mem run) known-row-of (to-row-of 𝓤 H A mem run W st mach good i)
+            RowT (Gives 𝓤 H A mem run st i) (λ r. r ≡ rowOf st i)
             (row-of-asks 𝓤 H A mem run W st mach good i fits) (λ w. id⊢ 𝓤 _) (gives 𝓤 H A mem run st i)
             (and-then ! (local ! (at 6 1) refl) (and-then ! (local ! (at 6 9) refl) (no-more !))) (λ w r r-is are.
             let typed = struct.lawful one-row.the-type row-laws.the-laws 𝓤 H A W .typed r _ are .0 in
@@ -242,8 +248,8 @@ module _
             sets ! (at 5 12) refl
             (bin ! (load ! (from ! (fld ! refl (stop !))) (look-in ! (at 5 2) (sub ! 0 refl (whole !)))) (local ! (at 5 11) refl) tt) (tt, tt) $
             rewrite ! (at 5 12) (λ (p : ℕ). ‵ (fat fullShare tyPtr l₁₂ 0 (vptr b p))) (sym (place-is 20 o i)) refl $
-            elem-out ! RowT (Is RowT) (shows 𝓤 H A RowT) (struct.vals one-row.the-type row-laws.the-laws) (struct.tells one-row.the-type row-laws.the-laws)
-            fullShare (stored i) i r b o inside (λ _.
+            elem-out ! RowT (Is RowT) (shows 𝓤 H A RowT)
+            (struct.vals one-row.the-type row-laws.the-laws) (struct.tells one-row.the-type row-laws.the-laws) fullShare (stored i) i r b o inside (λ _.
             -- row i and what it owns stand before the other rows
             assigns ! (of-opd ! (local ! (at 7 6) refl)) (from ! (hop ! (look ! (at 7 12) refl) (stop !))) (store-raw ! 0 refl typed) $
             move ! (1 ∷ []) $ drop ! $ owned ! RowT (Is RowT) (struct.makes one-row.the-type row-laws.the-plain 𝓤 H A) r _ are $ move ! (1 ∷ 0 ∷ []) $
@@ -251,8 +257,8 @@ module _
             rewrite ! 0 (λ (zs : List Row). ‵ (row RowT fullShare zs b o)) (set-more (rowOf st) i ys (stored i) r r-is refl) refl $
             assigns-last ! (bin ! (local ! (at 5 5) refl) (lit ! tt) (record { fits = next-fits })) (from ! (stop !))
             (store ! (at 5 5) refl (tt, record { fits = next-fits })) $
-            forget ! (at 5 12) refl $ forget ! (at 5 11) refl $ forget ! (at 5 10) refl $ forget ! (at 5 9) refl $ forget ! (at 5 8) refl $ forget ! (at 5 6) refl $
-            by ! goes-on))
+            forget ! (at 5 12) refl $ forget ! (at 5 11) refl $ forget ! (at 5 10) refl $ forget ! (at 5 9) refl $ forget ! (at 5 8) refl $
+            forget ! (at 5 6) refl $ by ! goes-on))
 
         -- the turn that leaves the loop, and what follows it: the answer is the result, the borrow is closed, and the locals are freed
         ends : (X : SProp 𝓤) → Turn n X
@@ -265,8 +271,8 @@ module _
             sets ! (at 5 0) refl (of-opd ! (local ! (at 5 3) refl)) (enum.lawful answer.the-type answer-laws.the-laws 𝓤 H A W tt .typed a _ is .0) $
             closes-slice ! tt RowT ys (stored n) (same n) b o $
             returns ! (look ! (at 4 0) refl) $
-            forget ! (at 4 8) refl $ forget ! (at 4 7) refl $ forget ! (at 4 5) refl $ forget ! (at 4 4) refl $ forget ! (at 4 3) refl $ forget ! (at 4 2) refl $
-            forget ! (at 4 1) refl $ forget ! (at 4 0) refl $
+            forget ! (at 4 8) refl $ forget ! (at 4 7) refl $ forget ! (at 4 5) refl $ forget ! (at 4 4) refl $ forget ! (at 4 3) refl $
+            forget ! (at 4 2) refl $ forget ! (at 4 1) refl $ forget ! (at 4 0) refl $
             move ! (28 ∷ 29 ∷ []) $ free1 ! $ move ! (26 ∷ 27 ∷ []) $ free1 ! $ move ! (24 ∷ 25 ∷ []) $ free1 ! $ move ! (22 ∷ 23 ∷ []) $ free1 ! $
             move ! (20 ∷ 21 ∷ []) $ free1 ! $ move ! (18 ∷ 19 ∷ []) $ free1 ! $ move ! (16 ∷ 17 ∷ []) $ free1 ! $ move ! (14 ∷ 15 ∷ []) $ free1 ! $
             move ! (12 ∷ 13 ∷ []) $ free1 ! $ move ! (10 ∷ 11 ∷ []) $ free1 ! $ move ! (8 ∷ 9 ∷ []) $ free1 ! $ move ! (6 ∷ 7 ∷ []) $ free1 ! $
@@ -298,7 +304,7 @@ module _
       Begun =
           Opened ys
           (‵ (froom (tyInt w16) l₅ 0) ∷ ‵ (fdies (tyInt w16) l₅) ∷ ‵ (froom (tyInt w16) l₄ 0) ∷ ‵ (fdies (tyInt w16) l₄)
-          ∷ ‵ (froom (spelled AnswerT) l₃ 0) ∷ ‵ (fdies (spelled AnswerT) l₃) ∷ Given′)
+          ∷ ‵ (froom (spelled AnswerT) l₃ 0) ∷ ‵ (fdies (spelled AnswerT) l₃) ∷ Passed)
 
       decides-first : ent 𝓤 (⋆ 𝓤 H A Begun) (Wp 𝓤 H C Λ E m.t-2 (atReturn 𝓤 H E Post))
       decides-first =
@@ -308,7 +314,8 @@ module _
           (decided-asks 𝓤 H A mem run W st mach good (length ys) (room .0)) (λ v. id⊢ 𝓤 _) (decides 𝓤 H A mem run st (length ys))
           (and-then ! (local ! (at 6 1) refl) (and-then ! (local ! (at 6 7) refl) (no-more !))) (λ v a a-is is.
           receives ! (at 5 3) refl (enum.lawful answer.the-type answer-laws.the-laws 𝓤 H A W tt .typed a _ is .0) $
-          calls ! fm (RowsWritten 𝓤 H A mem run) known-rows-written (to-rows-written 𝓤 H A mem run a v) u16 (Counts 𝓤 H A mem run a) (λ n. n ≡ written a)
+          calls ! fm (RowsWritten 𝓤 H A mem run) known-rows-written (to-rows-written 𝓤 H A mem run a v)
+          u16 (Counts 𝓤 H A mem run a) (λ n. n ≡ written a)
           (rows-written-asks 𝓤 H A mem run W a v is) (λ w. id⊢ 𝓤 _) (counts 𝓤 H A mem run a)
           (and-then ! (local ! (at 6 3) refl) (no-more !)) (λ w n n-is are.
           receives ! (at 5 4) refl (uint-lawful 𝓤 H A W w16 .typed n _ are .0) $
@@ -325,16 +332,19 @@ module _
         alloc1 ! (λ l₉. alloc1 ! (λ l₁₀. alloc1 ! (λ l₁₁. alloc1 ! (λ l₁₂. alloc0 ! $ params1 ! $
         pass1 ! (init ! (at 0 1) refl (struct.lawful state.the-type state-laws.the-laws 𝓤 H A W .typed st _ good .0)) $
         pass1 ! (init ! (at 0 2) refl (tt, (tt, (record { fits = room .0 }, tt)))) $ pass0 ! $
-        sets ! (at 0 7) refl (of-opd ! (load ! (from ! (fld ! refl (stop !))) (look-in ! (at 0 2) (sub ! 1 refl (whole !))))) (tt, record { fits = room .0 }) $
+        sets ! (at 0 7) refl (of-opd ! (load ! (from ! (fld ! refl (stop !))) (look-in ! (at 0 2) (sub ! 1 refl (whole !)))))
+        (tt, record { fits = room .0 }) $
         -- what the parameters own is taken apart, and the borrow is opened with the token
-        move ! (27 ∷ []) $ fsplit ! $ move ! (1 ∷ []) $ fsplit ! $ fsplit ! $ move ! (1 ∷ []) $ fsplit ! $ move ! (31 ∷ []) $ split ! $ move ! (2 ∷ 3 ∷ 0 ∷ []) $
+        move ! (27 ∷ []) $ fsplit ! $ move ! (1 ∷ []) $ fsplit ! $ fsplit ! $ move ! (1 ∷ []) $ fsplit ! $
+        move ! (31 ∷ []) $ split ! $ move ! (2 ∷ 3 ∷ 0 ∷ []) $
         opens-slice ! tt RowT ys b o $ move ! (4 ∷ []) $ drop ! $ move ! (4 ∷ []) $ drop ! $ move ! (4 ∷ []) $ drop ! $
         by ! (decides-first l₀ l₁ l₂ l₃ l₄ l₅ l₆ l₇ l₈ l₉ l₁₀ l₁₁ l₁₂))))))))))))))
 
 module _
     {M : Type 1} (𝓤 : URA M) (H : Heap 𝓤) (A : Atoms 𝓤) (W : Given 𝓤 H A) (mem : Memory → SProp 𝓤) (run : Routine → Fun 𝓤)
     (𝓣 : Tables 𝓤 H) (known-decided : Triple 𝓤 (𝓣 .C #decided) (Decided 𝓤 H A mem run))
-    (known-rows-written : Triple 𝓤 (𝓣 .C #rows-written) (RowsWritten 𝓤 H A mem run)) (known-row-of : Triple 𝓤 (𝓣 .C #row-of) (RowOf 𝓤 H A mem run)) where
+    (known-rows-written : Triple 𝓤 (𝓣 .C #rows-written) (RowsWritten 𝓤 H A mem run))
+    (known-row-of : Triple 𝓤 (𝓣 .C #row-of) (RowOf 𝓤 H A mem run)) where
   walks : Walks 𝓤 H A f.ended stayed (WpFn 𝓤 H (𝓣 .C) (𝓣 .Λ) code.function) (f.clauses 𝓤 H A mem run)
   walks =
       walked 𝓤 H A f.ended stayed (f.clauses 𝓤 H A mem run) (WpFn 𝓤 H (𝓣 .C) (𝓣 .Λ) code.function)
