@@ -1,0 +1,33 @@
+-- What metering decides before it writes a row: its answer, which depends on how many rows are lent and not on what they hold, and how many rows that
+-- answer says are written. Assumes nothing.
+use mathlib.Core.Option.{Option, none, some}
+use Prim.Native.Nat.{ℕ}
+use lib.Dec.{ltb}
+use Rattle.laws.specs.Tests.{if_then_else_}
+use Rattle.model.specs.declared.State.{State}
+use Rattle.model.specs.declared.Answer.{Answer}
+use Rattle.model.specs.declared.Answer.the-variants.{Ok, Executes, Spins, Granted, Waits, Passed, Freed, Refused}
+use Rattle.model.specs.Sound.{sound}
+use Rattle.model.specs.Said.{Word, ok, refused}
+use Rattle.model.specs.Meter.{meterRefusal}
+
+abbrev pub decidedBy : Option ℕ → ℕ → Answer
+decidedBy none tasks = Ok tasks
+decidedBy (some n) tasks = Refused n
+
+unfoldable pub decidedOn : State → ℕ → Answer
+decidedOn st lent = decidedBy (meterRefusal st lent) (st .tasks)
+
+abbrev pub written : Answer → ℕ
+written (Ok n) = n
+written (Executes t) = 0
+written (Spins t) = 0
+written (Granted r) = 0
+written (Waits t) = 0
+written (Passed t) = 0
+written (Freed r) = 0
+written (Refused n) = 0
+
+-- "`ok` and how many rows; refusals 1, 22"
+unfoldable pub meterSaid : State → ℕ → Word × ℕ
+meterSaid st lent = if sound st then (if ltb lent (st .tasks) then (refused, 22) else (ok, st .tasks)) else (refused, 1)
