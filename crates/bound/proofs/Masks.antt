@@ -20,7 +20,8 @@ use Rattle.laws.proofs.All.{all-at, all-ext}
 use Rattle.laws.proofs.Cases.{split, tests-same}
 use Rattle.laws.proofs.Lists.{getD-set}
 use Rattle.laws.proofs.Set.{set-at, length-setTo}
-use Rattle.bound.specs.Sets.{Resources, noResource, has, with, inEither, joined, notInBoth, meets, inMask, resourcesOf, setAt, setsOf}
+use Rattle.bound.specs.Sets.{Resources, noResource, has, with, inEither, joined, notInBoth, meets}
+use Rattle.bound.specs.Computed.{inMask, resourcesOf, setAt, setsOf}
 
 sixteen : (m : ℕ) → length (resourcesOf m) ≡ 16
 unfolding resourcesOf

@@ -1,8 +1,7 @@
 -- Sets of task numbers and of resource numbers, each a list with a test for every number. Assumes nothing.
-use Prim.Native.Nat.{ℕ, _/_, _%_, _^_}
+use Prim.Native.Nat.{ℕ}
 use mathlib.Core.Bool.{Bool, true, false, not, _&&_, _||_}
 use mathlib.Core.List.{List}
-use lib.Dec.{eqb}
 use lib.ListN.{getD, set, replicate}
 use Rattle.laws.specs.Loops.{allTo, setTo}
 
@@ -40,17 +39,3 @@ notInBoth xs ys r = not (has xs r && has ys r)
 
 unfoldable pub meets : Resources → Resources → Bool
 meets xs ys = not (allTo 16 (notInBoth xs ys))
-
--- a set of resources as the code holds it: bit r of a number says whether resource r is in it
-unfoldable pub inMask : ℕ → ℕ → Bool
-inMask m r = eqb (m / 2 ^ r % 2) 1
-
-unfoldable pub resourcesOf : ℕ → Resources
-resourcesOf m = setTo 16 (inMask m) noResource
-
--- the sets of twelve such numbers
-unfoldable pub setAt : List ℕ → ℕ → Resources
-setAt ms i = resourcesOf (getD ms i 0)
-
-unfoldable pub setsOf : List ℕ → List Resources
-setsOf ms = setTo 12 (setAt ms) (replicate 12 noResource)

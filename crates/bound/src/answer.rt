@@ -4,21 +4,23 @@ ghost use Rattle.bound.specs.Answer.{answer};
 use crate::Bounded;
 use crate::Sections;
 use crate::Tally;
+use crate::Verdict;
 use crate::draw;
 use crate::interference;
 use crate::interference::Reach;
 use crate::sets;
 use crate::table;
+use model::TaskNo;
 
 // "Start: outermost sections, B the task itself, R empty"
-pub fn bound(s: Sections, task: u16, allowance: u32) -> Bounded
-    ensures { λ r. ⌜ r ≡ answer s task allowance ⌝ }
+pub fn bound(s: Sections, task: TaskNo, allowance: u32) -> Bounded
+    ensures { λ r. ⌜ r ≡ answer s (task .0) allowance ⌝ }
 {
-    let number = table::refusal(s, task, allowance);
-    if number != 0 {
+    let verdict = table::refusal(s, task, allowance);
+    if let Verdict::Refused(number) = verdict {
         return Bounded::Refused(number);
     }
-    let t = task as usize;
+    let t = task.0 as usize;
     let rows = draw::rows(s);
     let spans = draw::spans(&rows, s.count as usize);
     let outers = draw::outers(&rows, s.count as usize);

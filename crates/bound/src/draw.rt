@@ -3,8 +3,7 @@
 // Entries past the count are not read. Assumes nothing.
 ghost use mathlib.Core.Path.{_≡_};
 ghost use Prim.Native.Nat.{_<_, _≤_};
-ghost use Rattle.bound.specs.Sets.{resourcesOf, setsOf};
-ghost use Rattle.bound.specs.Drawn.{Ranged, placeOfParent, rowOf, rowsOf, aroundIn, outersIn, onSpan, inSpan, widened, Spanned};
+ghost use Rattle.bound.specs.Computed.{resourcesOf, setsOf, ordinalOfParent, rowOf, rowsOf, aroundIn, outersIn, onSpan, inSpan, widened, Spanned, Ranged};
 use crate::Parent;
 use crate::Section;
 use crate::Sections;
@@ -17,7 +16,7 @@ pub(crate) const RESOURCE: usize = 1;
 
 pub(crate) const LENGTH: usize = 2;
 
-pub(crate) const PLACE: usize = 3;
+pub(crate) const PARENT: usize = 3;
 
 // The numbers of a span.
 pub(crate) const FROM: usize = 0;
@@ -33,18 +32,18 @@ pub(crate) fn on_span(task: usize, resource: usize) -> usize
     task * 16 + resource
 }
 
-// The number of the span of the sections directly in the section at a place.
-pub(crate) fn in_span(place: usize) -> usize
-    requires { ⌜ place ≤ 12 ⌝ }
-    ensures is { λ r. ⌜ r ≡ inSpan place ⌝ }
+// The number of the span of the sections directly in the section of an ordinal.
+pub(crate) fn in_span(ordinal: usize) -> usize
+    requires { ⌜ ordinal ≤ 12 ⌝ }
+    ensures is { λ r. ⌜ r ≡ inSpan ordinal ⌝ }
     ensures small { λ r. ⌜ r < 109 ⌝ }
 {
-    96 + place
+    96 + ordinal
 }
 
-// The place of a section's parent: its number and one, or 0 for none.
-fn place(parent: Parent) -> usize
-    ensures { λ r. ⌜ r ≡ placeOfParent parent ⌝ }
+// The ordinal of a section's parent: its number and one, or 0 for none.
+fn ordinal(parent: Parent) -> usize
+    ensures { λ r. ⌜ r ≡ ordinalOfParent parent ⌝ }
 {
     match parent {
         Parent::Outermost => 0,
@@ -55,11 +54,11 @@ fn place(parent: Parent) -> usize
 fn row(section: Section) -> [usize; 4]
     ensures { λ r. ⌜ r ≡ rowOf section ⌝ }
 {
-    let task = section.task as usize;
+    let task = section.task.0 as usize;
     let resource = section.resource as usize;
     let length = section.length as usize;
     let parent = section.parent;
-    [task, resource, length, place(parent)]
+    [task, resource, length, ordinal(parent)]
 }
 
 pub(crate) fn rows(s: Sections) -> [[usize; 4]; 12]
@@ -76,15 +75,15 @@ pub(crate) fn rows(s: Sections) -> [[usize; 4]; 12]
     drawn
 }
 
-// The resources around whatever stands in the section at the place: its own and those around it.
-fn around(rows: &[[usize; 4]; 12], outers: &[u16; 12], count: usize, place: usize) -> u16
-    requires { ⌜ Ranged (now rows) count × (place ≤ count) ⌝ }
-    ensures { λ r. ⌜ resourcesOf r ≡ aroundIn (now (rows .entry)) (setsOf (now (outers .entry))) place ⌝ }
+// The resources around whatever stands in the section of the ordinal: its own and those around it.
+fn around(rows: &[[usize; 4]; 12], outers: &[u16; 12], count: usize, ordinal: usize) -> u16
+    requires { ⌜ Ranged (now rows) count × (ordinal ≤ count) ⌝ }
+    ensures { λ r. ⌜ resourcesOf r ≡ aroundIn (now (rows .entry)) (setsOf (now (outers .entry))) ordinal ⌝ }
 {
-    if place == 0 {
+    if ordinal == 0 {
         return 0;
     }
-    let parent = place - 1;
+    let parent = ordinal - 1;
     sets::with_resource(outers[parent], rows[parent][RESOURCE])
 }
 
@@ -95,7 +94,7 @@ pub(crate) fn outers(rows: &[[usize; 4]; 12], count: usize) -> [u16; 12]
 {
     let mut drawn = [0; 12];
     for i in 0..count {
-        let next = around(rows, &drawn, count, rows[i][PLACE]);
+        let next = around(rows, &drawn, count, rows[i][PARENT]);
         drawn[i] = next;
     }
     drawn
@@ -112,7 +111,7 @@ fn widened(span: [usize; 2], i: usize) -> [usize; 2]
     [span[FROM], i + 1]
 }
 
-// Where the sections of a task on a resource stand, or those directly in the section at a place: the first number and the end of the numbers.
+// Where the sections of a task on a resource stand, or those directly in the section of an ordinal: the first number and the end of the numbers.
 // No calculation looks at a section outside the span that it asks for.
 pub(crate) fn spans(rows: &[[usize; 4]; 12], count: usize) -> [[usize; 2]; 109]
     requires { ⌜ Ranged (now rows) count ⌝ }
@@ -123,7 +122,7 @@ pub(crate) fn spans(rows: &[[usize; 4]; 12], count: usize) -> [[usize; 2]; 109]
     for i in 0..count {
         let on = on_span(rows[i][TASK], rows[i][RESOURCE]);
         drawn[on] = widened(drawn[on], i);
-        let inside = in_span(rows[i][PLACE]);
+        let inside = in_span(rows[i][PARENT]);
         drawn[inside] = widened(drawn[inside], i);
     }
     drawn

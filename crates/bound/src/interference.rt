@@ -8,16 +8,15 @@ ghost use lib.Dec.{eqb, ltb};
 ghost use lib.ListN.{getD};
 ghost use Rattle.laws.specs.Tests.{if_then_else_};
 ghost use Rattle.bound.specs.declared.Sections.{Sections};
-ghost use Rattle.bound.specs.Sets.{has, resourcesOf, setsOf};
-ghost use Rattle.bound.specs.Interference.{level, weighing, best, order, blockers, ordering};
-ghost use Rattle.bound.specs.Spending.{Fair};
-ghost use Rattle.bound.specs.Drawn.{Drawn, Ranged, Laid, Spends, parentOf, heldBy, weighedOn, triedNext, sumOver, sumsAt};
+ghost use Rattle.bound.specs.Sets.{has};
+ghost use Rattle.bound.specs.Interference.{weighing, weighedOn, best, triedNext, order, blockers, ordering, sumOver, level};
+ghost use Rattle.bound.specs.Computed.{resourcesOf, setsOf, parentOf, heldBy, Drawn, Ranged, Laid, Spends, Fair};
 use crate::Tally;
 use crate::draw;
 use crate::draw::END;
 use crate::draw::FROM;
 use crate::draw::LENGTH;
-use crate::draw::PLACE;
+use crate::draw::PARENT;
 use crate::draw::RESOURCE;
 use crate::draw::TASK;
 use crate::sets;
@@ -36,11 +35,11 @@ fn is_on(row: &[usize; 4], task: usize, resource: usize) -> bool
     (row[TASK] == task) & (row[RESOURCE] == resource)
 }
 
-// Whether the section of this row is the task's, directly in the section at the place.
-fn is_in(row: &[usize; 4], task: usize, place: usize) -> bool
-    ensures { λ r. ⌜ r ≡ (eqb (getD (now (row .entry)) 0 0) task && eqb (getD (now (row .entry)) 3 0) place) ⌝ }
+// Whether the section of this row is the task's, directly in the section of the ordinal.
+fn is_in(row: &[usize; 4], task: usize, ordinal: usize) -> bool
+    ensures { λ r. ⌜ r ≡ (eqb (getD (now (row .entry)) 0 0) task && eqb (getD (now (row .entry)) 3 0) ordinal) ⌝ }
 {
-    (row[TASK] == task) & (row[PLACE] == place)
+    (row[TASK] == task) & (row[PARENT] == ordinal)
 }
 
 fn larger(a: u64, b: u64) -> u64
@@ -49,15 +48,15 @@ fn larger(a: u64, b: u64) -> u64
     if a < b { b } else { a }
 }
 
-// Held once the section at the place has been chosen.
-fn held_after(outer: &[u16; 12], held: u16, place: usize) -> u16
-    requires { ⌜ place ≤ 12 ⌝ }
-    ensures { λ r. ⌜ resourcesOf r ≡ heldBy (setsOf (now (outer .entry))) (resourcesOf held) place ⌝ }
+// Held once the giver, a section or none, has been chosen.
+fn held_after(outer: &[u16; 12], held: u16, giver: usize) -> u16
+    requires { ⌜ giver ≤ 12 ⌝ }
+    ensures { λ r. ⌜ resourcesOf r ≡ heldBy (setsOf (now (outer .entry))) (resourcesOf held) giver ⌝ }
 {
-    if place == 0 {
+    if giver == 0 {
         return held;
     }
-    sets::joined(held, outer[place - 1])
+    sets::joined(held, outer[giver - 1])
 }
 
 // The tasks outside B that have a section on the resource.
@@ -87,8 +86,8 @@ fn weigh(
     allowance: u32,
 ) -> Tally
     requires { ⌜ Laid (now rows) (now spans) (reach .count) × (task < 6) × (i < reach .count) × (reach .left ≤ 6) × (allowance ≤ 1000000) ⌝ }
-    ensures is { λ r. ⌜ Spends (now (rows .entry)) (setsOf (now (outer .entry))) (reach .count) (λ s. weighedOn (level (reach .left) s) s resource task (now (b .entry)) (resourcesOf held) i) allowance r ⌝ }
-    ensures fair { λ r. ⌜ Fair (reach .count) 0 allowance r ⌝ }
+    ensures is { λ r. ⌜ Spends (now (rows .entry)) (setsOf (now (outer .entry))) (reach .count) (λ s. weighedOn (weighing (level (reach .left) 12 s) s (now (b .entry)) (resourcesOf held)) s resource task i) allowance r ⌝ }
+    ensures fair { λ r. ⌜ Fair (reach .count) allowance r ⌝ }
 {
     if !is_on(&rows[i], task, resource) {
         return Tally::Of(0, 0, allowance);
@@ -127,8 +126,8 @@ fn first_greatest(
     allowance: u32,
 ) -> Tally
     requires { ⌜ Laid (now rows) (now spans) (reach .count) × (task < 6) × (reach .left ≤ 6) × (allowance ≤ 1000000) × (resource < 16) ⌝ }
-    ensures is { λ r. ⌜ Spends (now (rows .entry)) (setsOf (now (outer .entry))) (reach .count) (λ s. best (weighing (level (reach .left) s) s (now (b .entry)) (resourcesOf held)) s resource task) allowance r ⌝ }
-    ensures fair { λ r. ⌜ Fair (reach .count) 0 allowance r ⌝ }
+    ensures is { λ r. ⌜ Spends (now (rows .entry)) (setsOf (now (outer .entry))) (reach .count) (λ s. best (weighing (level (reach .left) 12 s) s (now (b .entry)) (resourcesOf held)) s resource task) allowance r ⌝ }
+    ensures fair { λ r. ⌜ Fair (reach .count) allowance r ⌝ }
 {
     let on = draw::on_span(task, resource);
     let from = spans[on][FROM];
@@ -164,8 +163,8 @@ fn tried_next(
     allowance: u32,
 ) -> Tally
     requires { ⌜ Laid (now rows) (now spans) (reach .count) × (task < 6) × (reach .left ≤ 6) × (1 ≤ reach .depth) × (reach .depth ≤ 6) × (allowance ≤ 1000000) × (resource < 16) × (has (now remaining) task ≡ true) ⌝ }
-    ensures is { λ r. ⌜ Spends (now (rows .entry)) (setsOf (now (outer .entry))) (reach .count) (λ s. let weigh = weighing (level (reach .left) s) s in triedNext weigh (order (reach .depth - 1) weigh s resource) s resource (now (b .entry)) (now (remaining .entry)) (resourcesOf held) task) allowance r ⌝ }
-    ensures fair { λ r. ⌜ Fair (reach .count) 0 allowance r ⌝ }
+    ensures is { λ r. ⌜ Spends (now (rows .entry)) (setsOf (now (outer .entry))) (reach .count) (λ s. let weigh = weighing (level (reach .left) 12 s) s in triedNext weigh (order (reach .depth - 1) weigh s resource) s resource (now (b .entry)) (now (remaining .entry)) (resourcesOf held) task) allowance r ⌝ }
+    ensures fair { λ r. ⌜ Fair (reach .count) allowance r ⌝ }
 {
     let best = first_greatest(
         rows,
@@ -218,8 +217,8 @@ fn largest_order(
     allowance: u32,
 ) -> Tally
     requires { ⌜ Laid (now rows) (now spans) (reach .count) × (reach .left ≤ 6) × (reach .depth ≤ 6) × (allowance ≤ 1000000) × (resource < 16) ⌝ }
-    ensures is { λ r. ⌜ Spends (now (rows .entry)) (setsOf (now (outer .entry))) (reach .count) (λ s. order (reach .depth) (weighing (level (reach .left) s) s) s resource (now (b .entry)) (now (remaining .entry)) (resourcesOf held)) allowance r ⌝ }
-    ensures fair { λ r. ⌜ Fair (reach .count) 0 allowance r ⌝ }
+    ensures is { λ r. ⌜ Spends (now (rows .entry)) (setsOf (now (outer .entry))) (reach .count) (λ s. order (reach .depth) (weighing (level (reach .left) 12 s) s) s resource (now (b .entry)) (now (remaining .entry)) (resourcesOf held)) allowance r ⌝ }
+    ensures fair { λ r. ⌜ Fair (reach .count) allowance r ⌝ }
 {
     if reach.depth == 0 {
         return Tally::Of(0, 0, allowance);
@@ -263,8 +262,8 @@ fn ordering_value(
     allowance: u32,
 ) -> Tally
     requires { ⌜ Laid (now rows) (now spans) (reach .count) × (1 ≤ reach .left) × (reach .left ≤ 6) × (allowance ≤ 1000000) × (resource < 16) ⌝ }
-    ensures is { λ r. ⌜ Spends (now (rows .entry)) (setsOf (now (outer .entry))) (reach .count) (λ s. ordering (reach .left) (level (reach .left - 1) s) s (now (b .entry)) resource (resourcesOf entry)) allowance r ⌝ }
-    ensures fair { λ r. ⌜ Fair (reach .count) 0 allowance r ⌝ }
+    ensures is { λ r. ⌜ Spends (now (rows .entry)) (setsOf (now (outer .entry))) (reach .count) (λ s. ordering (reach .left) (level (reach .left - 1) 12 s) s (now (b .entry)) resource (resourcesOf entry)) allowance r ⌝ }
+    ensures fair { λ r. ⌜ Fair (reach .count) allowance r ⌝ }
 {
     let found = blockers(rows, reach.count, b, resource);
     let across = Reach {
@@ -293,16 +292,16 @@ fn sum_over(
     reach: Reach,
     b: &[bool; 6],
     task: usize,
-    place: usize,
+    ordinal: usize,
     r: u16,
     c: usize,
     allowance: u32,
 ) -> Tally
     requires { ⌜ Laid (now rows) (now spans) (reach .count) × (c < reach .count) × (1 ≤ reach .left) × (reach .left ≤ 6) × (1 ≤ reach .depth) × (reach .depth ≤ 12) × (allowance ≤ 1000000) ⌝ }
-    ensures is { λ o. ⌜ Spends (now (rows .entry)) (setsOf (now (outer .entry))) (reach .count) (λ s. sumOver (ordering (reach .left) (level (reach .left - 1) s) s (now (b .entry))) (sumsAt (reach .left) (reach .depth - 1) s (now (b .entry)) task) s task (parentOf place) (resourcesOf r) c) allowance o ⌝ }
-    ensures fair { λ o. ⌜ Fair (reach .count) 0 allowance o ⌝ }
+    ensures is { λ o. ⌜ Spends (now (rows .entry)) (setsOf (now (outer .entry))) (reach .count) (λ s. sumOver (ordering (reach .left) (level (reach .left - 1) 12 s) s (now (b .entry))) (level (reach .left) (reach .depth - 1) s (now (b .entry)) task) s task (parentOf ordinal) (resourcesOf r) c) allowance o ⌝ }
+    ensures fair { λ o. ⌜ Fair (reach .count) allowance o ⌝ }
 {
-    if !is_in(&rows[c], task, place) {
+    if !is_in(&rows[c], task, ordinal) {
         return Tally::Of(0, 0, allowance);
     }
     let resource = rows[c][RESOURCE];
@@ -323,7 +322,7 @@ fn sum_over(
     Tally::Of(ordered + value, 0, left)
 }
 
-// "sum over the sections c" of the task that stand directly in the section at the place.
+// "sum over the sections c" of the task that stand directly in the section of the ordinal.
 pub(crate) fn interference_sum(
     rows: &[[usize; 4]; 12],
     spans: &[[usize; 2]; 109],
@@ -331,13 +330,13 @@ pub(crate) fn interference_sum(
     reach: Reach,
     b: &[bool; 6],
     task: usize,
-    place: usize,
+    ordinal: usize,
     r: u16,
     allowance: u32,
 ) -> Tally
-    requires { ⌜ Laid (now rows) (now spans) (reach .count) × (reach .left ≤ 6) × (reach .depth ≤ 12) × (allowance ≤ 1000000) × (place ≤ 12) ⌝ }
-    ensures is { λ o. ⌜ Spends (now (rows .entry)) (setsOf (now (outer .entry))) (reach .count) (λ s. sumsAt (reach .left) (reach .depth) s (now (b .entry)) task (parentOf place) (resourcesOf r)) allowance o ⌝ }
-    ensures fair { λ o. ⌜ Fair (reach .count) 0 allowance o ⌝ }
+    requires { ⌜ Laid (now rows) (now spans) (reach .count) × (reach .left ≤ 6) × (reach .depth ≤ 12) × (allowance ≤ 1000000) × (ordinal ≤ 12) ⌝ }
+    ensures is { λ o. ⌜ Spends (now (rows .entry)) (setsOf (now (outer .entry))) (reach .count) (λ s. level (reach .left) (reach .depth) s (now (b .entry)) task (parentOf ordinal) (resourcesOf r)) allowance o ⌝ }
+    ensures fair { λ o. ⌜ Fair (reach .count) allowance o ⌝ }
 {
     if reach.left == 0 {
         return Tally::Of(0, 0, allowance);
@@ -345,13 +344,13 @@ pub(crate) fn interference_sum(
     if reach.depth == 0 {
         return Tally::Of(0, 0, allowance);
     }
-    let inside = draw::in_span(place);
+    let inside = draw::in_span(ordinal);
     let from = spans[inside][FROM];
     let end = spans[inside][END];
     let mut value = 0;
     let mut kept = allowance;
     for c in from..end {
-        let added = sum_over(rows, spans, outer, reach, b, task, place, r, c, kept);
+        let added = sum_over(rows, spans, outer, reach, b, task, ordinal, r, c, kept);
         let Tally::Of(more, _, left) = added else {
             return Tally::Exceeded;
         };

@@ -6,6 +6,8 @@ mod interference;
 mod sets;
 pub mod table;
 
+use model::TaskNo;
+
 // Where a section stands: in none, or directly in the section of that number.
 pub enum Parent {
     Outermost,
@@ -13,7 +15,7 @@ pub enum Parent {
 }
 
 pub struct Section {
-    pub task: u16,
+    pub task: TaskNo,
     pub resource: u16,
     pub length: u32,
     pub parent: Parent,
@@ -26,13 +28,19 @@ pub struct Sections {
     pub section: [Section; 12],
 }
 
+// What the tests of a table find: a refusal's number, or none.
+pub enum Verdict {
+    Accepted,
+    Refused(u16),
+}
+
 // The bound and the weighings spent on it, or a refusal's number.
 pub enum Bounded {
     Bound(u64, u32),
     Refused(u16),
 }
 
-// A value, the place of the section that gave it (its number and one, or 0 for none), and the allowance left; or the weighings exceeded it.
+// A value, the ordinal of the section that gave it (its number and one, or 0 for none), and the allowance left; or the weighings exceeded it.
 pub enum Tally {
     Of(u64, usize, u32),
     Exceeded,

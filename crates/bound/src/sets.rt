@@ -1,7 +1,8 @@
 // Sets of tasks, a test for each number, and of resources, a bit for each. Assumes nothing.
 ghost use mathlib.Core.Path.{_≡_};
 ghost use Prim.Native.Nat.{_<_};
-ghost use Rattle.bound.specs.Sets.{with, without, joined, meets, resourcesOf};
+ghost use Rattle.bound.specs.Sets.{with, without, joined, meets};
+ghost use Rattle.bound.specs.Computed.{resourcesOf};
 
 pub(crate) fn with_task(set: &[bool; 6], task: usize) -> [bool; 6]
     requires { ⌜ task < 6 ⌝ }

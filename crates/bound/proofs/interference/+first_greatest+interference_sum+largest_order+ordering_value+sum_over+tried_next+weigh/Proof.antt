@@ -1,7 +1,6 @@
 -- The proof of the cycle of calls: the interference sum, the ordering value, and what stands between them. The measure falls with the tasks
 -- outside B, then with the depth or with the tasks left to order. Assumes nothing.
-use mathlib.Core.Path.{_≡_, sym, ap, _∙_}
-use mathlib.Core.Option.{none}
+use mathlib.Core.Path.{_≡_, refl, sym, ap, _∙_}
 use mathlib.Core.Logic.{⊎-elim}
 use Prim.Native.Nat.{ℕ, _+_, _-_, _*_, _<_, _≤_}
 use borrow.Fn.Kinds.{In}
@@ -10,13 +9,12 @@ use native.Mathlib.Omega.{arith}
 use borrow.Author.Needs.{needs}
 use borrow.Author.Tests.{not-true, not-false}
 use Rattle.bound.specs.declared.Sections.{Sections}
-use Rattle.bound.specs.Interference.{run, weighing, bestTurn, best, orderTurn, order, ordering, sumTurn, level}
-use Rattle.bound.specs.Spending.{sectionOf, spend}
-use Rattle.bound.specs.Sets.{resourcesOf, setsOf}
-use Rattle.bound.specs.Drawn.{Shown, parentOf, sumsAt, onSpan, inSpan, fromIn, endIn}
-use Rattle.bound.proofs.Turns.{turns-end}
+use Rattle.bound.specs.declared.Tally.the-variants.{Of}
+use Rattle.bound.specs.Interference.{both, larger, gathered, weighing, weighedOn, firstGreatest, triedNext, order, ordering, sumOver, level}
+use Rattle.bound.specs.Computed.{resourcesOf, setsOf, parentOf, onSpan, inSpan, fromIn, endIn, Shown, spend}
+use Rattle.bound.proofs.Turns.{spend-same, turns-none, one-of, first-out, both-of, both-later, turn-out, sum-goes, order-goes, best-greater, best-stays}
 use Rattle.bound.proofs.Skips.{best-from, best-to, sum-from, sum-to}
-use Rattle.bound.proofs.Steps.{meets-at, joined-at, fair-of, weigh-not, weigh-none, weigh-met, weigh-of, weigh-out, best-greater, best-stays, best-exceeds, order-goes, order-skips, order-exceeds, sum-goes, sum-exceeds, tried-out, tried-of, tried-later, sum-not, sum-of, sum-out, sum-later, best-begins, order-begins, order-ends, sum-begins, sum-alone, sum-ends, nested-is, own-is, larger-most}
+use Rattle.bound.proofs.Steps.{fair-of, weigh-not, weigh-none, weigh-met, weigh-is, tried-starts, tried-is, sum-not, sum-is, order-made, order-ends, order-skips, sum-made, sum-alone, sum-ends, best-exceeds, own-is, turns-all, larger-none, larger-most}
 use Rattle.bound.proofs.interference.first_greatest.Reads as first-greatest
 use Rattle.bound.proofs.interference.first_greatest.Kinds as first-greatest-kinds
 use Rattle.bound.proofs.interference.+first_greatest+interference_sum+largest_order+ordering_value+sum_over+tried_next+weigh.Lts-first_greatest as first-greatest-lts
@@ -123,26 +121,26 @@ first-greatest-Inv-loop rows spans outer reach b held resource task allowance on
     × (end ≤ reach .count) × (reach .count ≤ 12)
     × (giver ≤ reach .count)
     × (value + 1000000 * kept ≤ 1000000 * allowance)
-    × ((s : Sections) → Shown s rows (setsOf outer) (reach .count) → let weigh = weighing (level (reach .left) s) s b (resourcesOf held) in
-    spend (run (bestTurn weigh s resource task) (reach .count - i) i value (sectionOf giver)) kept ≡ spend (best weigh s resource task) allowance)
+    × ((s : Sections) → Shown s rows (setsOf outer) (reach .count) → let weigh = weighing (level (reach .left) 12 s) s b (resourcesOf held) in
+    Of value giver kept ≡ spend (gathered firstGreatest (weighedOn weigh s resource task) i) allowance)
 
 abbrev interference-sum-Inv-loop : interference-sum-lts.InvT-loop
-interference-sum-Inv-loop rows spans outer reach b task place r allowance inside from end value₀ kept₀ c₀ value kept c =
+interference-sum-Inv-loop rows spans outer reach b task ordinal r allowance inside from end value₀ kept₀ c₀ value kept c =
     (c ≤ end)
-    × (end ≡ endIn spans (inSpan place))
+    × (end ≡ endIn spans (inSpan ordinal))
     × (end ≤ reach .count) × (reach .count ≤ 12)
     × (value + 1000000 * kept ≤ 1000000 * allowance)
-    × ((s : Sections) → Shown s rows (setsOf outer) (reach .count) → let ordered = ordering (reach .left) (level (reach .left - 1) s) s b in
-    spend (run (sumTurn ordered (sumsAt (reach .left) (reach .depth - 1) s b task) s task (parentOf place) (resourcesOf r)) (reach .count - c) c value none) kept
-    ≡ spend (sumsAt (reach .left) (reach .depth) s b task (parentOf place) (resourcesOf r)) allowance)
+    × ((s : Sections) → Shown s rows (setsOf outer) (reach .count) → let ordered = ordering (reach .left) (level (reach .left - 1) 12 s) s b in
+    let added = sumOver ordered (level (reach .left) (reach .depth - 1) s b task) s task (parentOf ordinal) (resourcesOf r) in
+    Of value 0 kept ≡ spend (gathered (λ c. both) added c) allowance)
 
 abbrev largest-order-Inv-loop : largest-order-lts.InvT-loop
 largest-order-Inv-loop rows spans outer reach b remaining held resource allowance value₀ kept₀ task₀ value kept task =
     (task ≤ 6)
     × (value + 1000000 * kept ≤ 1000000 * allowance)
-    × ((s : Sections) → Shown s rows (setsOf outer) (reach .count) → let weigh = weighing (level (reach .left) s) s in
-    spend (run (orderTurn weigh (order (reach .depth - 1) weigh s resource) s resource b remaining (resourcesOf held)) (6 - task) task value none) kept
-    ≡ spend (order (reach .depth) weigh s resource b remaining (resourcesOf held)) allowance)
+    × ((s : Sections) → Shown s rows (setsOf outer) (reach .count) → let weigh = weighing (level (reach .left) 12 s) s in
+    let tried = triedNext weigh (order (reach .depth - 1) weigh s resource) s resource b remaining (resourcesOf held) in
+    Of value 0 kept ≡ spend (gathered (λ x. larger) tried task) allowance)
 
 pub +first-greatest+interference-sum+largest-order+ordering-value+sum-over+tried-next+weigh-spec : {M : Type 1} → statement M
 +first-greatest+interference-sum+largest-order+ordering-value+sum-over+tried-next+weigh-spec =
@@ -172,7 +170,7 @@ pub +first-greatest+interference-sum+largest-order+ordering-value+sum-over+tried
       omega arith,
       omega arith,
       λ s shown.
-          best-from s _ _ _ (shown .drawn) spanned _ _ _ _ _ (ap (fromIn (start .args .spans .now)) key) ∙ best-begins _ s _ _ _ _ (shown .drawn .count-is),
+          best-from s _ _ _ (shown .drawn) spanned _ _ _ _ _ (ap (fromIn (start .args .spans .now)) key),
     ))
     (λ c κs.
     let start = c .before .before .before .before .before in
@@ -184,8 +182,8 @@ pub +first-greatest+interference-sum+largest-order+ordering-value+sum-over+tried
     let call = c .before .before in
     let at-loop = call .before .before in (
       λ s shown.
-          best-exceeds _ _ _ _ _ _ _ _ _ (at-loop .loop .giver) _ (omega arith) (sym (c .enum-told .given .1) ∙ call .weigh .ensures .0 s shown)
-          ∙ at-loop .loop .inv .6 s shown,
+          best-exceeds s _ _ _ _ _ _ _ _ _ (shown .drawn .count-is) (omega arith) (at-loop .loop .inv .6 s shown)
+          (sym (c .enum-told .given .1) ∙ call .weigh .ensures .0 s shown),
       tt,
     ))
     (λ c. search needs)
@@ -195,7 +193,7 @@ pub +first-greatest+interference-sum+largest-order+ordering-value+sum-over+tried
     let known = c .before .before in
     let call = known .before .before in
     let at-loop = call .before .before in
-    let fair = fair-of _ _ _ _ _ _ _ (known .weighed .given .1) (call .weigh .ensures .1) in
+    let fair = fair-of _ _ _ _ _ _ (known .weighed .given .1) (call .weigh .ensures .1) in
     ⊎-elim
     (λ w. (
       omega arith,
@@ -205,9 +203,8 @@ pub +first-greatest+interference-sum+largest-order+ordering-value+sum-over+tried
       omega arith,
       omega arith,
       λ s shown.
-          best-greater _ _ _ _ _ _ _ _ _ (at-loop .loop .giver) _ (omega arith) _ _ _ _ _
-          (sym (known .weighed .given .1) ∙ call .weigh .ensures .0 s shown) (w .0 .taken) (w .1) (w .2)
-          ∙ at-loop .loop .inv .6 s shown,
+          best-greater _ _ _ _ _ _ _ _ _ (sym (known .weighed .given .1) ∙ call .weigh .ensures .0 s shown) (at-loop .loop .inv .6 s shown) _ _
+          (w .0 .taken) (w .1) (w .2),
     ))
     (λ w. (
       omega arith,
@@ -217,16 +214,16 @@ pub +first-greatest+interference-sum+largest-order+ordering-value+sum-over+tried
       omega arith,
       omega arith,
       λ s shown.
-          best-stays _ _ _ _ _ _ _ _ _ (at-loop .loop .giver) _ (omega arith) _ _ _ _ _
-          (sym (known .weighed .given .1) ∙ call .weigh .ensures .0 s shown) (w .0 .left) (w .1) (w .2)
-          ∙ at-loop .loop .inv .6 s shown,
+          best-stays _ _ _ _ _ _ _ _ _ (sym (known .weighed .given .1) ∙ call .weigh .ensures .0 s shown) (at-loop .loop .inv .6 s shown) _ _
+          (w .0 .left) (w .1) (w .2),
     ))
     (c .if1 .came))
     (λ c.
     let at-loop = c .before in
     let start = at-loop .before .before .before .before in (
       λ s shown.
-          sym (best-to s _ _ _ (shown .drawn) (start .pre .1 .0 .spanned) _ _ _ _ _ _ _ _ (at-loop .loop .inv .1) (omega arith) (omega arith)) ∙ at-loop .loop .inv .6 s shown,
+          at-loop .loop .inv .6 s shown
+          ∙ spend-same _ _ _ (best-to s _ _ _ (shown .drawn) (start .pre .1 .0 .spanned) _ _ _ _ _ (at-loop .loop .inv .1) (omega arith) (omega arith)),
       record { most = omega arith; giver-most = omega arith },
     )))
     (λ t. interference-sum-lts.spec
@@ -234,7 +231,7 @@ pub +first-greatest+interference-sum+largest-order+ordering-value+sum-over+tried
     (interference-sum-at t)
     interference-sum.Post
     interference-sum-Inv-loop
-    (λ rows spans outer reach b task place r allowance inside from end value₀ kept₀ c₀ value kept c. end - c)
+    (λ rows spans outer reach b task ordinal r allowance inside from end value₀ kept₀ c₀ value kept c. end - c)
     (λ c. (
       λ s shown.
           sum-alone s _ _ _ _ _ _ _ (c .if1 .taken),
@@ -264,8 +261,7 @@ pub +first-greatest+interference-sum+largest-order+ordering-value+sum-over+tried
       start .pre .1 .0 .ranged .count-most,
       omega arith,
       λ s shown.
-          sum-from s _ _ _ (shown .drawn) spanned _ _ _ _ _ _ _ (ap (fromIn (start .args .spans .now)) key)
-          ∙ sum-begins s _ _ _ _ _ _ _ _ (deep .before .before .if1 .left) (deep .if2 .left) (shown .drawn .count-is),
+          sum-from s _ _ _ (shown .drawn) spanned _ _ _ _ _ _ _ (ap (fromIn (start .args .spans .now)) key),
     ))
     (λ c κs.
     let deep = c .before .before .before .before .before in
@@ -276,33 +272,38 @@ pub +first-greatest+interference-sum+largest-order+ordering-value+sum-over+tried
     (λ c. search needs)
     (λ c.
     let call = c .before .before in
-    let at-loop = call .before .before in (
+    let at-loop = call .before .before in
+    let deep = at-loop .before .before .before .before in (
       λ s shown.
-          sum-exceeds _ _ _ _ _ _ _ _ _ _ (omega arith) (sym (c .enum-told .given .1) ∙ call .sum-over .ensures .0 s shown)
-          ∙ at-loop .loop .inv .5 s shown,
+          turn-out (λ c. both) (λ c x y. refl) _ _ _ (s .count) _ _ _ (omega (arith, shown .drawn .count-is)) (at-loop .loop .inv .5 s shown)
+          (sym (c .enum-told .given .1) ∙ call .sum-over .ensures .0 s shown)
+          ∙ spend-same _ _ _ (sum-made s _ _ _ _ _ _ (deep .before .before .if1 .left) (deep .if2 .left)),
       tt,
     ))
-    (λ c. let fair = fair-of _ _ _ _ _ _ _ (c .before .added .given .1) (c .before .before .before .sum-over .ensures .1) in record { fits = omega arith })
+    (λ c. let fair = fair-of _ _ _ _ _ _ (c .before .added .given .1) (c .before .before .before .sum-over .ensures .1) in record { fits = omega arith })
     (λ c. search needs)
     (λ c. search needs)
     (λ c.
     let call = c .before .before .before in
     let at-loop = call .before .before in
-    let fair = fair-of _ _ _ _ _ _ _ (c .before .added .given .1) (call .sum-over .ensures .1) in (
+    let fair = fair-of _ _ _ _ _ _ (c .before .added .given .1) (call .sum-over .ensures .1) in (
       omega arith,
       at-loop .loop .inv .1,
       omega arith,
       omega arith,
       omega arith,
       λ s shown.
-          sum-goes _ _ _ _ _ _ _ _ _ _ (omega arith) _ _ _ (sym (c .before .added .given .1) ∙ call .sum-over .ensures .0 s shown)
-          ∙ at-loop .loop .inv .5 s shown,
+          sum-goes _ _ _ _ _ _ _ _ _ (sym (c .before .added .given .1) ∙ call .sum-over .ensures .0 s shown) (at-loop .loop .inv .5 s shown),
     ))
     (λ c.
     let at-loop = c .before in
-    let start = at-loop .before .before .before .before .before .before .before .before in (
+    let deep = at-loop .before .before .before .before in
+    let start = deep .before .before .before .before in (
       λ s shown.
-          sym (sum-to s _ _ _ (shown .drawn) (start .pre .1 .0 .spanned) _ _ _ _ _ _ _ _ _ (at-loop .loop .inv .1) (omega arith) (omega arith)) ∙ at-loop .loop .inv .5 s shown,
+          at-loop .loop .inv .5 s shown
+          ∙ spend-same _ _ _
+          (sum-to s _ _ _ (shown .drawn) (start .pre .1 .0 .spanned) _ _ _ _ _ _ _ (at-loop .loop .inv .1) (omega arith) (omega arith)
+          ∙ sum-made s _ _ _ _ _ _ (deep .before .before .if1 .left) (deep .if2 .left)),
       record { most = omega arith; giver-most = omega arith },
     )))
     (λ t. largest-order-lts.spec
@@ -316,7 +317,7 @@ pub +first-greatest+interference-sum+largest-order+ordering-value+sum-over+tried
           order-ends _ _ _ _ _ _ _ _ (c .if1 .taken),
       record { most = omega arith; giver-most = omega arith },
     ))
-    (λ c. (omega arith, omega arith, λ s shown. order-begins _ _ _ _ _ _ _ _ (c .if1 .left)))
+    (λ c. (omega arith, omega arith, λ s shown. turns-none _ _ _))
     (λ c. search needs)
     (λ c. search needs)
     (λ c. search needs)
@@ -325,7 +326,7 @@ pub +first-greatest+interference-sum+largest-order+ordering-value+sum-over+tried
       omega arith,
       at-loop .loop .inv .1,
       λ s shown.
-          order-skips _ _ s _ _ _ _ _ _ _ _ (omega arith) (not-true _ (c .if2 .taken)) ∙ at-loop .loop .inv .2 s shown,
+          order-goes _ _ _ _ _ _ _ _ _ (order-skips _ _ s _ _ _ _ _ _ (not-true _ (c .if2 .taken))) _ (sym (larger-none _)) (at-loop .loop .inv .2 s shown),
     ))
     (λ c κs.
     let deep = c .before .before .before .before in
@@ -338,8 +339,9 @@ pub +first-greatest+interference-sum+largest-order+ordering-value+sum-over+tried
     let call = c .before .before in
     let at-loop = call .before .before .before .before in (
       λ s shown.
-          order-exceeds _ _ _ _ _ _ _ _ _ _ _ (omega arith) (sym (c .enum-told .given .1) ∙ call .tried-next .ensures .0 s shown)
-          ∙ at-loop .loop .inv .2 s shown,
+          turn-out (λ x. larger) (λ x y z. refl) _ _ _ 6 _ _ _ (omega arith) (at-loop .loop .inv .2 s shown)
+          (sym (c .enum-told .given .1) ∙ call .tried-next .ensures .0 s shown)
+          ∙ spend-same _ _ _ (order-made _ s _ _ _ _ _ (at-loop .before .if1 .left)),
       tt,
     ))
     (λ c κs. search needs)
@@ -349,17 +351,15 @@ pub +first-greatest+interference-sum+largest-order+ordering-value+sum-over+tried
     let known = c .before .before in
     let call = known .before .before in
     let at-loop = call .before .before .before .before in
-    let fair = fair-of _ _ _ _ _ _ _ (known .tried .given .1) (call .tried-next .ensures .1) in (
+    let fair = fair-of _ _ _ _ _ _ (known .tried .given .1) (call .tried-next .ensures .1) in (
       omega arith,
       larger-most (at-loop .loop .value) (known .tried .given .0 .0) _ _ _ (c .larger .ensures) (omega arith) (omega arith),
       λ s shown.
-          order-goes _ _ _ _ _ _ _ _ _ _ _ (omega arith) _ _ _ _
-          (sym (known .tried .given .1) ∙ call .tried-next .ensures .0 s shown) (c .larger .ensures)
-          ∙ at-loop .loop .inv .2 s shown,
+          order-goes _ _ _ _ _ _ _ _ _ (sym (known .tried .given .1) ∙ call .tried-next .ensures .0 s shown) _ (c .larger .ensures) (at-loop .loop .inv .2 s shown),
     ))
     (λ c. (
       λ s shown.
-          sym (turns-end _ _ _ _ 0 _ (omega arith) (omega arith)) ∙ c .before .loop .inv .2 s shown,
+          c .before .loop .inv .2 s shown ∙ spend-same _ _ _ (turns-all _ _ _ (omega arith) (omega arith) ∙ order-made _ s _ _ _ _ _ (c .before .before .if1 .left)),
       record { most = omega arith; giver-most = omega arith },
     )))
     (λ t. ordering-value-lts.spec
@@ -373,7 +373,7 @@ pub +first-greatest+interference-sum+largest-order+ordering-value+sum-over+tried
     (omega (arith, start .pre .0), (start .pre .1 .0, omega arith, omega arith, omega arith, start .pre .1 .4)))
     (λ c. (
       λ s shown.
-          c .largest-order .ensures .0 s shown ∙ own-is _ _ s _ _ _ _ _ (c .before .before .before .blockers .ensures s (shown .drawn)),
+          c .largest-order .ensures .0 s shown ∙ spend-same _ _ _ (own-is _ _ s _ _ _ _ (c .before .before .before .blockers .ensures s (shown .drawn))),
       c .largest-order .ensures .1,
     )))
     (λ t. sum-over-lts.spec
@@ -385,7 +385,7 @@ pub +first-greatest+interference-sum+largest-order+ordering-value+sum-over+tried
     (λ c κs. search needs)
     (λ c. (
       λ s shown.
-          sum-not s _ _ _ shown _ _ _ _ _ _ _ (omega arith) _ (c .before .is-in .ensures) (not-true _ (c .if1 .taken)),
+          sum-not s _ _ _ shown _ _ _ _ _ _ (omega arith) _ (c .before .is-in .ensures) _ (not-true _ (c .if1 .taken)),
       record { most = omega arith; giver-most = omega arith },
     ))
     (λ c. search needs)
@@ -405,7 +405,7 @@ pub +first-greatest+interference-sum+largest-order+ordering-value+sum-over+tried
     let test = inside .before in
     let start = test .before .before in (
       λ s shown.
-          sum-out s _ _ _ shown _ _ _ _ _ _ _ (start .pre .1 .1) _ (test .is-in .ensures) (not-false _ (inside .if1 .left)) _ (wide .with-resource .ensures)
+          first-out _ _ _ _ (ap (λ w. w .weighings) (sum-is s _ _ _ shown _ _ _ _ _ _ (start .pre .1 .1) _ (test .is-in .ensures) (not-false _ (inside .if1 .left)) _ (wide .with-resource .ensures)))
           (sym (c .enum-told .given .1) ∙ own .ordering-value .ensures .0 s shown),
       tt,
     ))
@@ -414,7 +414,7 @@ pub +first-greatest+interference-sum+largest-order+ordering-value+sum-over+tried
     (λ c κs.
     let own = c .before .before .before .before in
     let start = own .before .before .before .before .before .before in
-    let fair = fair-of _ _ _ _ _ _ _ (c .before .before .own .given .1) (own .ordering-value .ensures .1) in
+    let fair = fair-of _ _ _ _ _ _ (c .before .before .own .given .1) (own .ordering-value .ensures .1) in
     let facts = start .pre .1 in
     (omega (arith, start .pre .0), (facts .0, omega (arith, facts), omega (arith, facts), omega (arith, facts), omega (arith, facts .1, facts .0 .ranged .count-most))))
     (λ c. search needs)
@@ -426,15 +426,15 @@ pub +first-greatest+interference-sum+largest-order+ordering-value+sum-over+tried
     let test = inside .before in
     let start = test .before .before in (
       λ s shown.
-          sum-later s _ _ _ shown _ _ _ _ _ _ _ (start .pre .1 .1) _ (test .is-in .ensures) (not-false _ (inside .if1 .left)) _ (wide .with-resource .ensures) _ _ _
+          both-later _ _ _ _ (sum-is s _ _ _ shown _ _ _ _ _ _ (start .pre .1 .1) _ (test .is-in .ensures) (not-false _ (inside .if1 .left)) _ (wide .with-resource .ensures)) _ _ _
           (sym (c .before .before .before .before .before .own .given .1) ∙ own .ordering-value .ensures .0 s shown)
           (sym (c .enum-told2 .given .1) ∙ c .before .before .interference-sum .ensures .0 s shown),
       tt,
     ))
     (λ c.
     let own = c .before .before .before .before .before .before .before .before in
-    let fair = fair-of _ _ _ _ _ _ _ (c .before .before .before .before .before .before .own .given .1) (own .ordering-value .ensures .1) in
-    let more = fair-of _ _ _ _ _ _ _ (c .before .nested .given .1) (c .before .before .before .interference-sum .ensures .1) in
+    let fair = fair-of _ _ _ _ _ _ (c .before .before .before .before .before .before .own .given .1) (own .ordering-value .ensures .1) in
+    let more = fair-of _ _ _ _ _ _ (c .before .nested .given .1) (c .before .before .before .interference-sum .ensures .1) in
     record { fits = omega (arith, own .before .before .before .before .before .before .pre .1) })
     (λ c.
     let own = c .before .before .before .before .before .before .before .before in
@@ -442,10 +442,10 @@ pub +first-greatest+interference-sum+largest-order+ordering-value+sum-over+tried
     let inside = wide .before .before in
     let test = inside .before in
     let start = test .before .before in
-    let fair = fair-of _ _ _ _ _ _ _ (c .before .before .before .before .before .before .own .given .1) (own .ordering-value .ensures .1) in
-    let more = fair-of _ _ _ _ _ _ _ (c .before .nested .given .1) (c .before .before .before .interference-sum .ensures .1) in (
+    let fair = fair-of _ _ _ _ _ _ (c .before .before .before .before .before .before .own .given .1) (own .ordering-value .ensures .1) in
+    let more = fair-of _ _ _ _ _ _ (c .before .nested .given .1) (c .before .before .before .interference-sum .ensures .1) in (
       λ s shown.
-          sum-of s _ _ _ shown _ _ _ _ _ _ _ (start .pre .1 .1) _ (test .is-in .ensures) (not-false _ (inside .if1 .left)) _ (wide .with-resource .ensures) _ _ _ _ _ _
+          both-of _ _ _ _ (sum-is s _ _ _ shown _ _ _ _ _ _ (start .pre .1 .1) _ (test .is-in .ensures) (not-false _ (inside .if1 .left)) _ (wide .with-resource .ensures)) _ _ _ _ _ _
           (sym (c .before .before .before .before .before .before .own .given .1) ∙ own .ordering-value .ensures .0 s shown)
           (sym (c .before .nested .given .1) ∙ c .before .before .before .interference-sum .ensures .0 s shown),
       record { most = omega arith; giver-most = omega arith },
@@ -460,19 +460,19 @@ pub +first-greatest+interference-sum+largest-order+ordering-value+sum-over+tried
     (λ c.
     let best = c .before .before in (
       λ s shown.
-          tried-out s _ _ _ shown _ _ _ _ _ _ _ _ (best .before .pre .1 .7) (sym (c .enum-told .given .1) ∙ best .first-greatest .ensures .0 s shown),
+          first-out _ _ _ _ (ap (λ w. w .weighings) (tried-starts s _ _ _ shown _ _ _ _ _ _ _ (best .before .pre .1 .7))) (sym (c .enum-told .given .1) ∙ best .first-greatest .ensures .0 s shown),
       tt,
     ))
     (λ c. search needs)
     (λ c κs. search needs)
     (λ c κs.
     let best = c .before .before .before .before .before in
-    let fair = fair-of _ _ _ _ _ _ _ (c .before .before .before .best .given .1) (best .first-greatest .ensures .1) in
+    let fair = fair-of _ _ _ _ _ _ (c .before .before .before .best .given .1) (best .first-greatest .ensures .1) in
     omega (arith, best .before .pre .1 .0 .ranged .count-most))
     (λ c κs.
     let best = c .before .before .before .before .before .before .before in
     let start = best .before in
-    let fair = fair-of _ _ _ _ _ _ _ (c .before .before .before .before .before .best .given .1) (best .first-greatest .ensures .1) in
+    let fair = fair-of _ _ _ _ _ _ (c .before .before .before .before .before .best .given .1) (best .first-greatest .ensures .1) in
     let facts = start .pre .1 in
     (omega (arith, start .pre .0), (facts .0, omega (arith, facts), omega (arith, facts), omega (arith, facts), facts .6)))
     (λ c. search needs)
@@ -482,12 +482,12 @@ pub +first-greatest+interference-sum+largest-order+ordering-value+sum-over+tried
     let sets = call .before .before in
     let known = sets .before .before .before .before in
     let best = known .before .before in
-    let fair = fair-of _ _ _ _ _ _ _ (known .best .given .1) (best .first-greatest .ensures .1) in (
+    let fair = fair-of _ _ _ _ _ _ (known .best .given .1) (best .first-greatest .ensures .1) in (
       λ s shown.
-          tried-later s _ _ _ shown _ _ _ _ _ _ _ _ (best .before .pre .1 .7) _ _ _
-          (sym (known .best .given .1) ∙ best .first-greatest .ensures .0 s shown) (fair .giver-most) _
-          (sets .before .without-task .ensures) _ (sets .held-after .ensures)
-          (sym (c .enum-told2 .given .1) ∙ call .largest-order .ensures .0 s shown),
+          let next = sym (known .best .given .1) ∙ best .first-greatest .ensures .0 s shown in
+          both-later _ _ _ _
+          (tried-is s _ _ _ shown _ _ _ _ _ _ _ (best .before .pre .1 .7) _ _ _ _ next (fair .giver-most) _ _ (sets .before .without-task .ensures) (sets .held-after .ensures))
+          _ _ _ next (sym (c .enum-told2 .given .1) ∙ call .largest-order .ensures .0 s shown),
       tt,
     ))
     (λ c.
@@ -495,21 +495,21 @@ pub +first-greatest+interference-sum+largest-order+ordering-value+sum-over+tried
     let sets = call .before .before in
     let known = sets .before .before .before .before in
     let best = known .before .before in
-    let fair = fair-of _ _ _ _ _ _ _ (known .best .given .1) (best .first-greatest .ensures .1) in
-    let more = fair-of _ _ _ _ _ _ _ (c .before .rest .given .1) (call .largest-order .ensures .1) in
+    let fair = fair-of _ _ _ _ _ _ (known .best .given .1) (best .first-greatest .ensures .1) in
+    let more = fair-of _ _ _ _ _ _ (c .before .rest .given .1) (call .largest-order .ensures .1) in
     record { fits = omega (arith, best .before .pre .1) })
     (λ c.
     let call = c .before .before .before in
     let sets = call .before .before in
     let known = sets .before .before .before .before in
     let best = known .before .before in
-    let fair = fair-of _ _ _ _ _ _ _ (known .best .given .1) (best .first-greatest .ensures .1) in
-    let more = fair-of _ _ _ _ _ _ _ (c .before .rest .given .1) (call .largest-order .ensures .1) in (
+    let fair = fair-of _ _ _ _ _ _ (known .best .given .1) (best .first-greatest .ensures .1) in
+    let more = fair-of _ _ _ _ _ _ (c .before .rest .given .1) (call .largest-order .ensures .1) in (
       λ s shown.
-          tried-of s _ _ _ shown _ _ _ _ _ _ _ _ (best .before .pre .1 .7) _ _ _
-          (sym (known .best .given .1) ∙ best .first-greatest .ensures .0 s shown) (fair .giver-most) _
-          (sets .before .without-task .ensures) _ (sets .held-after .ensures)
-          _ _ _ (sym (c .before .rest .given .1) ∙ call .largest-order .ensures .0 s shown),
+          let next = sym (known .best .given .1) ∙ best .first-greatest .ensures .0 s shown in
+          both-of _ _ _ _
+          (tried-is s _ _ _ shown _ _ _ _ _ _ _ (best .before .pre .1 .7) _ _ _ _ next (fair .giver-most) _ _ (sets .before .without-task .ensures) (sets .held-after .ensures))
+          _ _ _ _ _ _ next (sym (c .before .rest .given .1) ∙ call .largest-order .ensures .0 s shown),
       record { most = omega arith; giver-most = omega arith },
     )))
     (λ t. weigh-lts.spec
@@ -521,12 +521,12 @@ pub +first-greatest+interference-sum+largest-order+ordering-value+sum-over+tried
     (λ c κs. search needs)
     (λ c. (
       λ s shown.
-          weigh-not s _ _ _ shown _ _ _ _ _ _ _ (omega arith) _ (c .before .is-on .ensures) (not-true _ (c .if1 .taken)),
+          weigh-not s _ _ _ shown _ _ _ _ _ _ (omega arith) _ (c .before .is-on .ensures) _ (not-true _ (c .if1 .taken)),
       record { most = omega arith; giver-most = omega arith },
     ))
     (λ c. (
       λ s shown.
-          weigh-none s _ _ _ shown _ _ _ _ _ _ _ (omega arith) _ (c .before .before .is-on .ensures) (not-false _ (c .before .if1 .left)) (c .if2 .taken),
+          weigh-none s _ _ _ shown _ _ _ _ _ _ (omega arith) _ (c .before .before .is-on .ensures) (not-false _ (c .before .if1 .left)) _ (c .if2 .taken),
       tt,
     ))
     (λ c. search needs)
@@ -538,8 +538,8 @@ pub +first-greatest+interference-sum+largest-order+ordering-value+sum-over+tried
     let on = some .before in
     let start = on .before .before .before in (
       λ s shown.
-          weigh-met s _ _ _ shown _ _ _ _ _ _ _ (omega arith) _ (on .before .is-on .ensures) (not-false _ (on .if1 .left)) (some .if2 .left) _
-          (meets-at _ (start .args .i) _ _ _ (start .pre .1 .0 .ranged .count-most) (start .pre .1 .2) (c .before .meets .ensures)) (c .if3 .taken),
+          weigh-met s _ _ _ shown _ _ _ _ _ _ (omega arith) _ (on .before .is-on .ensures) (not-false _ (on .if1 .left))
+          (start .pre .1 .0 .ranged .count-most) _ (c .before .meets .ensures) _ (some .if2 .left) (c .if3 .taken),
       record { most = omega arith; giver-most = omega arith },
     ))
     (λ c κs. search needs)
@@ -562,10 +562,10 @@ pub +first-greatest+interference-sum+largest-order+ordering-value+sum-over+tried
     let on = some .before in
     let start = on .before .before .before in (
       λ s shown.
-          weigh-out s _ _ _ shown _ _ _ _ _ _ _ (start .pre .1 .2) _ (on .before .is-on .ensures) (not-false _ (on .if1 .left)) (some .if2 .left) _
-          (meets-at _ (start .args .i) _ _ _ (start .pre .1 .0 .ranged .count-most) (start .pre .1 .2) (apart .before .meets .ensures)) (apart .if3 .left) _
-          (nested-is _ s (start .args .b .now) _ _ (start .args .i) _ _ _ (wide .with-task .ensures) (joined-at _ (start .args .i) _ _ _ (start .pre .1 .0 .ranged .count-most) (start .pre .1 .2) (sets .joined .ensures)))
-          (sym (c .enum-told .given .1) ∙ call .interference-sum .ensures .0 s shown),
+          both-later _ _ _ _
+          (weigh-is s _ _ _ shown _ _ _ _ _ _ (start .pre .1 .2) _ (on .before .is-on .ensures) (not-false _ (on .if1 .left))
+          (start .pre .1 .0 .ranged .count-most) _ (apart .before .meets .ensures) (apart .if3 .left) _ _ (wide .with-task .ensures) (sets .joined .ensures))
+          _ _ _ (one-of _ _ (some .if2 .left)) (sym (c .enum-told .given .1) ∙ call .interference-sum .ensures .0 s shown),
       tt,
     ))
     (λ c. search needs)
@@ -574,7 +574,7 @@ pub +first-greatest+interference-sum+largest-order+ordering-value+sum-over+tried
     (λ c.
     let call = c .before .before .before .before in
     let start = call .before .before .before .before .before .before .before .before .before .before .before .before in
-    let more = fair-of _ _ _ _ _ _ _ (c .before .before .nested .given .1) (call .interference-sum .ensures .1) in
+    let more = fair-of _ _ _ _ _ _ (c .before .before .nested .given .1) (call .interference-sum .ensures .1) in
     let facts = start .pre .1 in
     let length = facts .0 .ranged .length-most _ (facts .2) in
     record { fits = omega (arith, facts) })
@@ -586,13 +586,13 @@ pub +first-greatest+interference-sum+largest-order+ordering-value+sum-over+tried
     let some = apart .before .before .before in
     let on = some .before in
     let start = on .before .before .before in
-    let more = fair-of _ _ _ _ _ _ _ (c .before .before .nested .given .1) (call .interference-sum .ensures .1) in
+    let more = fair-of _ _ _ _ _ _ (c .before .before .nested .given .1) (call .interference-sum .ensures .1) in
     let facts = start .pre .1 in
     let length = facts .0 .ranged .length-most _ (facts .2) in (
       λ s shown.
-          weigh-of s _ _ _ shown _ _ _ _ _ _ _ (start .pre .1 .2) _ (on .before .is-on .ensures) (not-false _ (on .if1 .left)) (some .if2 .left) _
-          (meets-at _ (start .args .i) _ _ _ (start .pre .1 .0 .ranged .count-most) (start .pre .1 .2) (apart .before .meets .ensures)) (apart .if3 .left) _
-          (nested-is _ s (start .args .b .now) _ _ (start .args .i) _ _ _ (wide .with-task .ensures) (joined-at _ (start .args .i) _ _ _ (start .pre .1 .0 .ranged .count-most) (start .pre .1 .2) (sets .joined .ensures)))
-          _ _ _ (sym (c .before .before .nested .given .1) ∙ call .interference-sum .ensures .0 s shown),
+          both-of _ _ _ _
+          (weigh-is s _ _ _ shown _ _ _ _ _ _ (start .pre .1 .2) _ (on .before .is-on .ensures) (not-false _ (on .if1 .left))
+          (start .pre .1 .0 .ranged .count-most) _ (apart .before .meets .ensures) (apart .if3 .left) _ _ (wide .with-task .ensures) (sets .joined .ensures))
+          _ _ _ _ _ _ (one-of _ _ (some .if2 .left)) (sym (c .before .before .nested .given .1) ∙ call .interference-sum .ensures .0 s shown),
       record { most = omega (arith, facts, some .if2 .left); giver-most = omega arith },
     )))
