@@ -18,8 +18,8 @@ use Rattle.bound.specs.declared.Tally.{Tally}
 use Rattle.bound.specs.declared.Tally.the-variants.{Of, Exceeded}
 use Rattle.bound.specs.declared.Verdict.{Verdict}
 use Rattle.bound.specs.declared.Verdict.the-variants.{Accepted, Refused}
-use Rattle.bound.specs.Sets.{Resources, noResource, with, joined}
-use Rattle.bound.specs.Table.{sectionAt, parentFits, above, outer}
+use Rattle.bound.specs.Sets.{taskNumbers, resourceNumbers, Resources, noResource, with, joined}
+use Rattle.bound.specs.Table.{sectionNumbers, million, sectionAt, parentFits, above, outer}
 use Rattle.bound.specs.Interference.{Weighed}
 
 -- the first of two verdicts
@@ -40,14 +40,14 @@ unfoldable pub inMask : ℕ → ℕ → Bool
 inMask m r = eqb (m / 2 ^ r % 2) 1
 
 unfoldable pub resourcesOf : ℕ → Resources
-resourcesOf m = setTo 16 (inMask m) noResource
+resourcesOf m = setTo resourceNumbers (inMask m) noResource
 
 -- the sets of twelve such numbers
 unfoldable pub setAt : List ℕ → ℕ → Resources
 setAt ms i = resourcesOf (getD ms i 0)
 
 unfoldable pub setsOf : List ℕ → List Resources
-setsOf ms = setTo 12 (setAt ms) (replicate 12 noResource)
+setsOf ms = setTo sectionNumbers (setAt ms) (replicate sectionNumbers noResource)
 
 -- a section, or none, as one number: a section's ordinal is its number and one, and 0 is none's
 abbrev pub ordinalOf : Option ℕ → ℕ
@@ -89,7 +89,7 @@ unfoldable pub rowAt : Sections → ℕ → List ℕ
 rowAt s i = rowOf (sectionAt s i)
 
 unfoldable pub rowsOf : Sections → Rows
-rowsOf s = setTo (s .count) (rowAt s) (replicate 12 (replicate 4 0))
+rowsOf s = setTo (s .count) (rowAt s) (replicate sectionNumbers (replicate 4 0))
 
 -- the resources around what stands in the section of an ordinal, from those of the sections before it
 abbrev pub aroundIn : Rows → List Resources → ℕ → Resources
@@ -101,7 +101,7 @@ outerNext rows i outers = set outers i (aroundIn rows outers (parentIn rows i))
 
 -- the outer resources of each section, one after the other
 unfoldable pub outersIn : Rows → ℕ → List Resources
-outersIn rows count = foldTo count (outerNext rows) (replicate 12 noResource)
+outersIn rows count = foldTo count (outerNext rows) (replicate sectionNumbers noResource)
 
 -- what joins Held for the section of an ordinal
 abbrev pub heldBy : List Resources → Resources → ℕ → Resources
@@ -114,10 +114,10 @@ Spans = List (List ℕ)
 
 -- the span of a task's sections on a resource, and that of the sections directly in the section of an ordinal
 abbrev pub onSpan : ℕ → ℕ → ℕ
-onSpan task resource = task * 16 + resource
+onSpan task resource = task * resourceNumbers + resource
 
 abbrev pub inSpan : ℕ → ℕ
-inSpan ordinal = 96 + ordinal
+inSpan ordinal = taskNumbers * resourceNumbers + ordinal
 
 abbrev pub fromIn : Spans → ℕ → ℕ
 fromIn spans k = getD (getD spans k []) 0 0
@@ -142,10 +142,10 @@ pub record Spanned (rows : Rows) (spans : Spans) (count : ℕ) : Type 0 where
 
 -- the numbers in the rows are in range
 pub record Ranged (rows : Rows) (count : ℕ) : Type 0 where
-  pub count-most : count ≤ 12
-  pub task-most : (i : ℕ) → i < count → taskIn rows i < 6
-  pub resource-most : (i : ℕ) → i < count → resourceIn rows i < 16
-  pub length-most : (i : ℕ) → i < count → lengthIn rows i ≤ 1000000
+  pub count-most : count ≤ sectionNumbers
+  pub task-most : (i : ℕ) → i < count → taskIn rows i < taskNumbers
+  pub resource-most : (i : ℕ) → i < count → resourceIn rows i < resourceNumbers
+  pub length-most : (i : ℕ) → i < count → lengthIn rows i ≤ million
   pub parent-most : (i : ℕ) → i < count → parentIn rows i ≤ i
 
 -- rows and spans that the calculation can go by
@@ -177,7 +177,7 @@ Spends rows outers count calculation allowance answer = (s : Sections) → Shown
 
 -- a value grows by at most a million for each weighing, and its giver is one of the sections
 pub record Grown (count allowance value giver left : ℕ) : Type 0 where
-  pub most : value + 1000000 * left ≤ 1000000 * allowance
+  pub most : value + million * left ≤ million * allowance
   pub giver-most : giver ≤ count
 
 abbrev pub Fair : ℕ → ℕ → Tally → Type 0

@@ -10,8 +10,8 @@ use Rattle.laws.specs.Loops.{foldTo}
 use Rattle.bound.specs.declared.Parent.{Parent}
 use Rattle.bound.specs.declared.Parent.the-variants.{Outermost, Inside}
 use Rattle.bound.specs.declared.Sections.{Sections}
-use Rattle.bound.specs.Sets.{Tasks, Resources, noTask, noResource, has, with, without, joined, meets}
-use Rattle.bound.specs.Table.{sectionAt, directlyIn, outer}
+use Rattle.bound.specs.Sets.{taskNumbers, Tasks, Resources, noTask, noResource, has, with, without, joined, meets}
+use Rattle.bound.specs.Table.{sectionNumbers, sectionAt, directlyIn, outer}
 
 -- a value, the section that gave it if one did, and the weighings spent on it
 pub record Weighed : Type 0 where
@@ -88,7 +88,7 @@ triedNext weigh after s q b remaining held x =
 -- "in the order giving the largest sum", `left` being how many tasks remain
 unfoldable pub order : ℕ → Weighing → Sections → ℕ → Tasks → Tasks → Resources → Weighed
 order zero weigh s q b remaining held = nothing
-order (suc left) weigh s q b remaining held = gathered (λ x. larger) (triedNext weigh (order left weigh s q) s q b remaining held) 6
+order (suc left) weigh s q b remaining held = gathered (λ x. larger) (triedNext weigh (order left weigh s q) s q b remaining held) taskNumbers
 
 -- "the tasks outside B that have a section on c's resource": of section i
 unfoldable pub blocker : Sections → ℕ → Tasks → ℕ → Tasks → Tasks
@@ -120,8 +120,8 @@ sums (suc depth) ordered s t p r = gathered (λ c. both) (sumOver ordered (sums 
 -- "The two calculations call one another until tasks and depth run out": `left` tasks are outside B, sections nest to `depth`
 unfoldable pub level : ℕ → ℕ → Sections → Calculation
 level zero depth s b t p r = nothing
-level (suc left) depth s b t p r = sums depth (ordering (suc left) (level left 12 s) s b) s t p r
+level (suc left) depth s b t p r = sums depth (ordering (suc left) (level left sectionNumbers s) s b) s t p r
 
 -- "Start: outermost sections, B the task itself, R empty"
 unfoldable pub bound : Sections → ℕ → Weighed
-bound s t = level (s .tasks - 1) 12 s (with noTask t) t Outermost noResource
+bound s t = level (s .tasks - 1) sectionNumbers s (with noTask t) t Outermost noResource

@@ -5,19 +5,26 @@ use mathlib.Core.List.{List}
 use lib.ListN.{getD, set, replicate}
 use Rattle.laws.specs.Loops.{allTo, setTo}
 
--- a set of tasks, 6 tests
+-- how many tasks and resources there may be
+abbrev pub taskNumbers : ℕ
+taskNumbers = 6
+
+abbrev pub resourceNumbers : ℕ
+resourceNumbers = 16
+
+-- a set of tasks, a test for each number
 abbrev pub Tasks : Type 0
 Tasks = List Bool
 
--- a set of resources, 16 tests
+-- a set of resources, likewise
 abbrev pub Resources : Type 0
 Resources = List Bool
 
 abbrev pub noTask : Tasks
-noTask = replicate 6 false
+noTask = replicate taskNumbers false
 
 abbrev pub noResource : Resources
-noResource = replicate 16 false
+noResource = replicate resourceNumbers false
 
 abbrev pub has : List Bool → ℕ → Bool
 has xs n = getD xs n false
@@ -32,10 +39,10 @@ unfoldable pub inEither : Resources → Resources → ℕ → Bool
 inEither xs ys r = has xs r || has ys r
 
 unfoldable pub joined : Resources → Resources → Resources
-joined xs ys = setTo 16 (inEither xs ys) xs
+joined xs ys = setTo resourceNumbers (inEither xs ys) xs
 
 unfoldable pub notInBoth : Resources → Resources → ℕ → Bool
 notInBoth xs ys r = not (has xs r && has ys r)
 
 unfoldable pub meets : Resources → Resources → Bool
-meets xs ys = not (allTo 16 (notInBoth xs ys))
+meets xs ys = not (allTo resourceNumbers (notInBoth xs ys))

@@ -14,7 +14,14 @@ use Rattle.bound.specs.declared.Section.{Section}
 use Rattle.bound.specs.declared.Sections.{Sections}
 use Rattle.bound.specs.declared.Verdict.{Verdict}
 use Rattle.bound.specs.declared.Verdict.the-variants.{Accepted, Refused}
-use Rattle.bound.specs.Sets.{Resources, noResource, with}
+use Rattle.bound.specs.Sets.{taskNumbers, Resources, noResource, with}
+
+-- how many sections there may be, and how long one
+abbrev pub sectionNumbers : ℕ
+sectionNumbers = 12
+
+abbrev pub million : ℕ
+million = 1000000
 
 abbrev pub noSection : Section
 noSection = record { task = record { 0 = 0 }; resource = 0; length = 0; parent = Outermost }
@@ -37,11 +44,11 @@ around (suc n) s (Inside p) = with (around n s (sectionAt s p .parent)) (section
 
 -- "Outer resources of a section are those of its ancestors": at most 12, since each is an earlier section
 unfoldable pub outer : Sections → ℕ → Resources
-outer s i = around 12 s (sectionAt s i .parent)
+outer s i = around sectionNumbers s (sectionAt s i .parent)
 
 -- "1 to 6 tasks, 0 to 12 sections"
 abbrev pub countsFit : Sections → Bool
-countsFit s = leb 1 (s .tasks) && leb (s .tasks) 6 && leb (s .count) 12
+countsFit s = leb 1 (s .tasks) && leb (s .tasks) taskNumbers && leb (s .count) sectionNumbers
 
 -- "a parent (an earlier section of the same task) or none"
 abbrev pub parentFits : Sections → ℕ → Parent → Bool
@@ -52,7 +59,7 @@ parentFits s i (Inside p) = ltb p i && eqb (sectionAt s p .task .0) (sectionAt s
 unfoldable pub sectionFits : Sections → ℕ → Bool
 sectionFits s i =
     ltb (sectionAt s i .task .0) (s .tasks) && leb (sectionAt s i .resource) 15
-    && leb 1 (sectionAt s i .length) && leb (sectionAt s i .length) 1000000
+    && leb 1 (sectionAt s i .length) && leb (sectionAt s i .length) million
     && parentFits s i (sectionAt s i .parent)
 
 -- "Resources rise strictly from parent to child"
@@ -86,7 +93,7 @@ tableRefusal s =
 unfoldable pub refusal : Sections → ℕ → ℕ → Option ℕ
 refusal s t allowance =
     tableRefusal s
-    orElse firstOf (44 when not (ltb t (s .tasks)) or 45 when not (leb 1 allowance && leb allowance 1000000) or accepted)
+    orElse firstOf (44 when not (ltb t (s .tasks)) or 45 when not (leb 1 allowance && leb allowance million) or accepted)
 
 -- a refusal as it is answered
 abbrev pub verdict : Option ℕ → Verdict

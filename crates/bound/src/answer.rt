@@ -2,7 +2,9 @@
 ghost use mathlib.Core.Path.{_≡_};
 ghost use Rattle.bound.specs.Answer.{answer};
 use crate::Bounded;
+use crate::SECTIONS;
 use crate::Sections;
+use crate::TASKS;
 use crate::Tally;
 use crate::Verdict;
 use crate::draw;
@@ -27,9 +29,9 @@ pub fn bound(s: Sections, task: TaskNo, allowance: u32) -> Bounded
     let reach = Reach {
         count: s.count as usize,
         left: s.tasks as usize - 1,
-        depth: 12,
+        depth: SECTIONS,
     };
-    let nobody = [false; 6];
+    let nobody = [false; TASKS];
     let itself = sets::with_task(&nobody, t);
     let found = interference::interference_sum(
         &rows,

@@ -3,8 +3,11 @@
 // Entries past the count are not read. Assumes nothing.
 ghost use mathlib.Core.Path.{_≡_};
 ghost use Prim.Native.Nat.{_<_, _≤_};
+ghost use Rattle.bound.specs.Sets.{taskNumbers, resourceNumbers};
+ghost use Rattle.bound.specs.Table.{sectionNumbers};
 ghost use Rattle.bound.specs.Computed.{resourcesOf, setsOf, ordinalOfParent, rowOf, rowsOf, aroundIn, outersIn, onSpan, inSpan, widened, Spanned, Ranged};
 use crate::Parent;
+use crate::SECTIONS;
 use crate::Section;
 use crate::Sections;
 use crate::sets;
@@ -18,6 +21,11 @@ pub(crate) const LENGTH: usize = 2;
 
 pub(crate) const PARENT: usize = 3;
 
+// A span for each task and resource, then one for each section and one for none.
+pub(crate) const SPANS: usize = 109;
+
+const IN_SPANS: usize = 96;
+
 // The numbers of a span.
 pub(crate) const FROM: usize = 0;
 
@@ -25,7 +33,7 @@ pub(crate) const END: usize = 1;
 
 // The number of the span of a task's sections on a resource.
 pub(crate) fn on_span(task: usize, resource: usize) -> usize
-    requires { ⌜ (task < 6) × (resource < 16) ⌝ }
+    requires { ⌜ (task < taskNumbers) × (resource < resourceNumbers) ⌝ }
     ensures is { λ r. ⌜ r ≡ onSpan task resource ⌝ }
     ensures small { λ r. ⌜ r < 109 ⌝ }
 {
@@ -34,11 +42,11 @@ pub(crate) fn on_span(task: usize, resource: usize) -> usize
 
 // The number of the span of the sections directly in the section of an ordinal.
 pub(crate) fn in_span(ordinal: usize) -> usize
-    requires { ⌜ ordinal ≤ 12 ⌝ }
+    requires { ⌜ ordinal ≤ sectionNumbers ⌝ }
     ensures is { λ r. ⌜ r ≡ inSpan ordinal ⌝ }
     ensures small { λ r. ⌜ r < 109 ⌝ }
 {
-    96 + ordinal
+    IN_SPANS + ordinal
 }
 
 // The ordinal of a section's parent: its number and one, or 0 for none.
@@ -61,13 +69,13 @@ fn row(section: Section) -> [usize; 4]
     [task, resource, length, ordinal(parent)]
 }
 
-pub(crate) fn rows(s: Sections) -> [[usize; 4]; 12]
-    requires { ⌜ s .count ≤ 12 ⌝ }
+pub(crate) fn rows(s: Sections) -> [[usize; 4]; SECTIONS]
+    requires { ⌜ s .count ≤ sectionNumbers ⌝ }
     ensures { λ r. ⌜ r ≡ rowsOf s ⌝ }
 {
     let count = s.count as usize;
     let empty = [0usize; 4];
-    let mut drawn = [empty; 12];
+    let mut drawn = [empty; SECTIONS];
     for i in 0..count {
         let section = s.section[i];
         drawn[i] = row(section);
@@ -76,7 +84,12 @@ pub(crate) fn rows(s: Sections) -> [[usize; 4]; 12]
 }
 
 // The resources around whatever stands in the section of the ordinal: its own and those around it.
-fn around(rows: &[[usize; 4]; 12], outers: &[u16; 12], count: usize, ordinal: usize) -> u16
+fn around(
+    rows: &[[usize; 4]; SECTIONS],
+    outers: &[u16; SECTIONS],
+    count: usize,
+    ordinal: usize,
+) -> u16
     requires { ⌜ Ranged (now rows) count × (ordinal ≤ count) ⌝ }
     ensures { λ r. ⌜ resourcesOf r ≡ aroundIn (now (rows .entry)) (setsOf (now (outers .entry))) ordinal ⌝ }
 {
@@ -88,11 +101,11 @@ fn around(rows: &[[usize; 4]; 12], outers: &[u16; 12], count: usize, ordinal: us
 }
 
 // The outer resources of each section. A parent comes before its children, so its own are drawn already.
-pub(crate) fn outers(rows: &[[usize; 4]; 12], count: usize) -> [u16; 12]
+pub(crate) fn outers(rows: &[[usize; 4]; SECTIONS], count: usize) -> [u16; SECTIONS]
     requires { ⌜ Ranged (now rows) count ⌝ }
     ensures { λ r. ⌜ setsOf r ≡ outersIn (now (rows .entry)) count ⌝ }
 {
-    let mut drawn = [0; 12];
+    let mut drawn = [0; SECTIONS];
     for i in 0..count {
         let next = around(rows, &drawn, count, rows[i][PARENT]);
         drawn[i] = next;
@@ -102,7 +115,7 @@ pub(crate) fn outers(rows: &[[usize; 4]; 12], count: usize) -> [u16; 12]
 
 // A span with section i at its end.
 fn widened(span: [usize; 2], i: usize) -> [usize; 2]
-    requires { ⌜ i < 12 ⌝ }
+    requires { ⌜ i < sectionNumbers ⌝ }
     ensures { λ r. ⌜ r ≡ widened span i ⌝ }
 {
     if span[END] == 0 {
@@ -113,12 +126,12 @@ fn widened(span: [usize; 2], i: usize) -> [usize; 2]
 
 // Where the sections of a task on a resource stand, or those directly in the section of an ordinal: the first number and the end of the numbers.
 // No calculation looks at a section outside the span that it asks for.
-pub(crate) fn spans(rows: &[[usize; 4]; 12], count: usize) -> [[usize; 2]; 109]
+pub(crate) fn spans(rows: &[[usize; 4]; SECTIONS], count: usize) -> [[usize; 2]; SPANS]
     requires { ⌜ Ranged (now rows) count ⌝ }
     ensures { λ r. ⌜ Spanned (now (rows .entry)) r count ⌝ }
 {
     let empty = [0; 2];
-    let mut drawn = [empty; 109];
+    let mut drawn = [empty; SPANS];
     for i in 0..count {
         let on = on_span(rows[i][TASK], rows[i][RESOURCE]);
         drawn[on] = widened(drawn[on], i);

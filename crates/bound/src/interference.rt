@@ -8,9 +8,12 @@ ghost use lib.Dec.{eqb, ltb};
 ghost use lib.ListN.{getD};
 ghost use Rattle.laws.specs.Tests.{if_then_else_};
 ghost use Rattle.bound.specs.declared.Sections.{Sections};
-ghost use Rattle.bound.specs.Sets.{has};
+ghost use Rattle.bound.specs.Sets.{taskNumbers, resourceNumbers, has};
+ghost use Rattle.bound.specs.Table.{sectionNumbers, million};
 ghost use Rattle.bound.specs.Interference.{weighing, weighedOn, best, triedNext, order, blockers, ordering, sumOver, level};
 ghost use Rattle.bound.specs.Computed.{resourcesOf, setsOf, parentOf, heldBy, Drawn, Ranged, Laid, Spends, Fair};
+use crate::SECTIONS;
+use crate::TASKS;
 use crate::Tally;
 use crate::draw;
 use crate::draw::END;
@@ -18,6 +21,7 @@ use crate::draw::FROM;
 use crate::draw::LENGTH;
 use crate::draw::PARENT;
 use crate::draw::RESOURCE;
+use crate::draw::SPANS;
 use crate::draw::TASK;
 use crate::sets;
 
@@ -49,8 +53,8 @@ fn larger(a: u64, b: u64) -> u64
 }
 
 // Held once the giver, a section or none, has been chosen.
-fn held_after(outer: &[u16; 12], held: u16, giver: usize) -> u16
-    requires { ⌜ giver ≤ 12 ⌝ }
+fn held_after(outer: &[u16; SECTIONS], held: u16, giver: usize) -> u16
+    requires { ⌜ giver ≤ sectionNumbers ⌝ }
     ensures { λ r. ⌜ resourcesOf r ≡ heldBy (setsOf (now (outer .entry))) (resourcesOf held) giver ⌝ }
 {
     if giver == 0 {
@@ -60,11 +64,16 @@ fn held_after(outer: &[u16; 12], held: u16, giver: usize) -> u16
 }
 
 // The tasks outside B that have a section on the resource.
-fn blockers(rows: &[[usize; 4]; 12], count: usize, b: &[bool; 6], resource: usize) -> [bool; 6]
+fn blockers(
+    rows: &[[usize; 4]; SECTIONS],
+    count: usize,
+    b: &[bool; TASKS],
+    resource: usize,
+) -> [bool; TASKS]
     requires { ⌜ Ranged (now rows) count ⌝ }
     ensures { λ r. ⌜ ((s : Sections) → Drawn s (now (rows .entry)) count → r ≡ blockers s resource (now (b .entry))) ⌝ }
 {
-    let mut found = [false; 6];
+    let mut found = [false; TASKS];
     for i in 0..count {
         let task = rows[i][TASK];
         found[task] = found[task] | ((rows[i][RESOURCE] == resource) & !b[task]);
@@ -74,19 +83,19 @@ fn blockers(rows: &[[usize; 4]; 12], count: usize, b: &[bool; 6], resource: usiz
 
 // What section i weighs, if it is the task's on the resource: nothing where its outer resources meet Held, else its length and its children.
 fn weigh(
-    rows: &[[usize; 4]; 12],
-    spans: &[[usize; 2]; 109],
-    outer: &[u16; 12],
+    rows: &[[usize; 4]; SECTIONS],
+    spans: &[[usize; 2]; SPANS],
+    outer: &[u16; SECTIONS],
     reach: Reach,
-    b: &[bool; 6],
+    b: &[bool; TASKS],
     held: u16,
     resource: usize,
     task: usize,
     i: usize,
     allowance: u32,
 ) -> Tally
-    requires { ⌜ Laid (now rows) (now spans) (reach .count) × (task < 6) × (i < reach .count) × (reach .left ≤ 6) × (allowance ≤ 1000000) ⌝ }
-    ensures is { λ r. ⌜ Spends (now (rows .entry)) (setsOf (now (outer .entry))) (reach .count) (λ s. weighedOn (weighing (level (reach .left) 12 s) s (now (b .entry)) (resourcesOf held)) s resource task i) allowance r ⌝ }
+    requires { ⌜ Laid (now rows) (now spans) (reach .count) × (task < taskNumbers) × (i < reach .count) × (reach .left ≤ taskNumbers) × (allowance ≤ million) ⌝ }
+    ensures is { λ r. ⌜ Spends (now (rows .entry)) (setsOf (now (outer .entry))) (reach .count) (λ s. weighedOn (weighing (level (reach .left) sectionNumbers s) s (now (b .entry)) (resourcesOf held)) s resource task i) allowance r ⌝ }
     ensures fair { λ r. ⌜ Fair (reach .count) allowance r ⌝ }
 {
     if !is_on(&rows[i], task, resource) {
@@ -102,7 +111,7 @@ fn weigh(
     let below = Reach {
         count: reach.count,
         left: reach.left,
-        depth: 12,
+        depth: SECTIONS,
     };
     let wider = sets::with_task(b, task);
     let joint = sets::joined(held, outer[i]);
@@ -115,18 +124,18 @@ fn weigh(
 
 // "The first greatest counts": of the task's sections on the resource, by number.
 fn first_greatest(
-    rows: &[[usize; 4]; 12],
-    spans: &[[usize; 2]; 109],
-    outer: &[u16; 12],
+    rows: &[[usize; 4]; SECTIONS],
+    spans: &[[usize; 2]; SPANS],
+    outer: &[u16; SECTIONS],
     reach: Reach,
-    b: &[bool; 6],
+    b: &[bool; TASKS],
     held: u16,
     resource: usize,
     task: usize,
     allowance: u32,
 ) -> Tally
-    requires { ⌜ Laid (now rows) (now spans) (reach .count) × (task < 6) × (reach .left ≤ 6) × (allowance ≤ 1000000) × (resource < 16) ⌝ }
-    ensures is { λ r. ⌜ Spends (now (rows .entry)) (setsOf (now (outer .entry))) (reach .count) (λ s. best (weighing (level (reach .left) 12 s) s (now (b .entry)) (resourcesOf held)) s resource task) allowance r ⌝ }
+    requires { ⌜ Laid (now rows) (now spans) (reach .count) × (task < taskNumbers) × (reach .left ≤ taskNumbers) × (allowance ≤ million) × (resource < resourceNumbers) ⌝ }
+    ensures is { λ r. ⌜ Spends (now (rows .entry)) (setsOf (now (outer .entry))) (reach .count) (λ s. best (weighing (level (reach .left) sectionNumbers s) s (now (b .entry)) (resourcesOf held)) s resource task) allowance r ⌝ }
     ensures fair { λ r. ⌜ Fair (reach .count) allowance r ⌝ }
 {
     let on = draw::on_span(task, resource);
@@ -151,19 +160,19 @@ fn first_greatest(
 
 // "trying each remaining task next, then each remaining after it": this task next, which remains.
 fn tried_next(
-    rows: &[[usize; 4]; 12],
-    spans: &[[usize; 2]; 109],
-    outer: &[u16; 12],
+    rows: &[[usize; 4]; SECTIONS],
+    spans: &[[usize; 2]; SPANS],
+    outer: &[u16; SECTIONS],
     reach: Reach,
-    b: &[bool; 6],
-    remaining: &[bool; 6],
+    b: &[bool; TASKS],
+    remaining: &[bool; TASKS],
     held: u16,
     resource: usize,
     task: usize,
     allowance: u32,
 ) -> Tally
-    requires { ⌜ Laid (now rows) (now spans) (reach .count) × (task < 6) × (reach .left ≤ 6) × (1 ≤ reach .depth) × (reach .depth ≤ 6) × (allowance ≤ 1000000) × (resource < 16) × (has (now remaining) task ≡ true) ⌝ }
-    ensures is { λ r. ⌜ Spends (now (rows .entry)) (setsOf (now (outer .entry))) (reach .count) (λ s. let weigh = weighing (level (reach .left) 12 s) s in triedNext weigh (order (reach .depth - 1) weigh s resource) s resource (now (b .entry)) (now (remaining .entry)) (resourcesOf held) task) allowance r ⌝ }
+    requires { ⌜ Laid (now rows) (now spans) (reach .count) × (task < taskNumbers) × (reach .left ≤ taskNumbers) × (1 ≤ reach .depth) × (reach .depth ≤ taskNumbers) × (allowance ≤ million) × (resource < resourceNumbers) × (has (now remaining) task ≡ true) ⌝ }
+    ensures is { λ r. ⌜ Spends (now (rows .entry)) (setsOf (now (outer .entry))) (reach .count) (λ s. let weigh = weighing (level (reach .left) sectionNumbers s) s in triedNext weigh (order (reach .depth - 1) weigh s resource) s resource (now (b .entry)) (now (remaining .entry)) (resourcesOf held) task) allowance r ⌝ }
     ensures fair { λ r. ⌜ Fair (reach .count) allowance r ⌝ }
 {
     let best = first_greatest(
@@ -206,18 +215,18 @@ fn tried_next(
 
 // The remaining tasks "in the order giving the largest sum".
 fn largest_order(
-    rows: &[[usize; 4]; 12],
-    spans: &[[usize; 2]; 109],
-    outer: &[u16; 12],
+    rows: &[[usize; 4]; SECTIONS],
+    spans: &[[usize; 2]; SPANS],
+    outer: &[u16; SECTIONS],
     reach: Reach,
-    b: &[bool; 6],
-    remaining: &[bool; 6],
+    b: &[bool; TASKS],
+    remaining: &[bool; TASKS],
     held: u16,
     resource: usize,
     allowance: u32,
 ) -> Tally
-    requires { ⌜ Laid (now rows) (now spans) (reach .count) × (reach .left ≤ 6) × (reach .depth ≤ 6) × (allowance ≤ 1000000) × (resource < 16) ⌝ }
-    ensures is { λ r. ⌜ Spends (now (rows .entry)) (setsOf (now (outer .entry))) (reach .count) (λ s. order (reach .depth) (weighing (level (reach .left) 12 s) s) s resource (now (b .entry)) (now (remaining .entry)) (resourcesOf held)) allowance r ⌝ }
+    requires { ⌜ Laid (now rows) (now spans) (reach .count) × (reach .left ≤ taskNumbers) × (reach .depth ≤ taskNumbers) × (allowance ≤ million) × (resource < resourceNumbers) ⌝ }
+    ensures is { λ r. ⌜ Spends (now (rows .entry)) (setsOf (now (outer .entry))) (reach .count) (λ s. order (reach .depth) (weighing (level (reach .left) sectionNumbers s) s) s resource (now (b .entry)) (now (remaining .entry)) (resourcesOf held)) allowance r ⌝ }
     ensures fair { λ r. ⌜ Fair (reach .count) allowance r ⌝ }
 {
     if reach.depth == 0 {
@@ -225,7 +234,7 @@ fn largest_order(
     }
     let mut value = 0;
     let mut kept = allowance;
-    for task in 0..6usize {
+    for task in 0..TASKS {
         if !remaining[task] {
             continue;
         }
@@ -252,17 +261,17 @@ fn largest_order(
 
 // "Ordering value: the tasks outside B that have a section on c's resource, in the order giving the largest sum. Held starts as that R."
 fn ordering_value(
-    rows: &[[usize; 4]; 12],
-    spans: &[[usize; 2]; 109],
-    outer: &[u16; 12],
+    rows: &[[usize; 4]; SECTIONS],
+    spans: &[[usize; 2]; SPANS],
+    outer: &[u16; SECTIONS],
     reach: Reach,
-    b: &[bool; 6],
+    b: &[bool; TASKS],
     resource: usize,
     entry: u16,
     allowance: u32,
 ) -> Tally
-    requires { ⌜ Laid (now rows) (now spans) (reach .count) × (1 ≤ reach .left) × (reach .left ≤ 6) × (allowance ≤ 1000000) × (resource < 16) ⌝ }
-    ensures is { λ r. ⌜ Spends (now (rows .entry)) (setsOf (now (outer .entry))) (reach .count) (λ s. ordering (reach .left) (level (reach .left - 1) 12 s) s (now (b .entry)) resource (resourcesOf entry)) allowance r ⌝ }
+    requires { ⌜ Laid (now rows) (now spans) (reach .count) × (1 ≤ reach .left) × (reach .left ≤ taskNumbers) × (allowance ≤ million) × (resource < resourceNumbers) ⌝ }
+    ensures is { λ r. ⌜ Spends (now (rows .entry)) (setsOf (now (outer .entry))) (reach .count) (λ s. ordering (reach .left) (level (reach .left - 1) sectionNumbers s) s (now (b .entry)) resource (resourcesOf entry)) allowance r ⌝ }
     ensures fair { λ r. ⌜ Fair (reach .count) allowance r ⌝ }
 {
     let found = blockers(rows, reach.count, b, resource);
@@ -286,19 +295,19 @@ fn ordering_value(
 
 // "the ordering value, plus the same calculation on c's direct children, both with R and c's resource": of section c, if it stands there.
 fn sum_over(
-    rows: &[[usize; 4]; 12],
-    spans: &[[usize; 2]; 109],
-    outer: &[u16; 12],
+    rows: &[[usize; 4]; SECTIONS],
+    spans: &[[usize; 2]; SPANS],
+    outer: &[u16; SECTIONS],
     reach: Reach,
-    b: &[bool; 6],
+    b: &[bool; TASKS],
     task: usize,
     ordinal: usize,
     r: u16,
     c: usize,
     allowance: u32,
 ) -> Tally
-    requires { ⌜ Laid (now rows) (now spans) (reach .count) × (c < reach .count) × (1 ≤ reach .left) × (reach .left ≤ 6) × (1 ≤ reach .depth) × (reach .depth ≤ 12) × (allowance ≤ 1000000) ⌝ }
-    ensures is { λ o. ⌜ Spends (now (rows .entry)) (setsOf (now (outer .entry))) (reach .count) (λ s. sumOver (ordering (reach .left) (level (reach .left - 1) 12 s) s (now (b .entry))) (level (reach .left) (reach .depth - 1) s (now (b .entry)) task) s task (parentOf ordinal) (resourcesOf r) c) allowance o ⌝ }
+    requires { ⌜ Laid (now rows) (now spans) (reach .count) × (c < reach .count) × (1 ≤ reach .left) × (reach .left ≤ taskNumbers) × (1 ≤ reach .depth) × (reach .depth ≤ sectionNumbers) × (allowance ≤ million) ⌝ }
+    ensures is { λ o. ⌜ Spends (now (rows .entry)) (setsOf (now (outer .entry))) (reach .count) (λ s. sumOver (ordering (reach .left) (level (reach .left - 1) sectionNumbers s) s (now (b .entry))) (level (reach .left) (reach .depth - 1) s (now (b .entry)) task) s task (parentOf ordinal) (resourcesOf r) c) allowance o ⌝ }
     ensures fair { λ o. ⌜ Fair (reach .count) allowance o ⌝ }
 {
     if !is_in(&rows[c], task, ordinal) {
@@ -324,17 +333,17 @@ fn sum_over(
 
 // "sum over the sections c" of the task that stand directly in the section of the ordinal.
 pub(crate) fn interference_sum(
-    rows: &[[usize; 4]; 12],
-    spans: &[[usize; 2]; 109],
-    outer: &[u16; 12],
+    rows: &[[usize; 4]; SECTIONS],
+    spans: &[[usize; 2]; SPANS],
+    outer: &[u16; SECTIONS],
     reach: Reach,
-    b: &[bool; 6],
+    b: &[bool; TASKS],
     task: usize,
     ordinal: usize,
     r: u16,
     allowance: u32,
 ) -> Tally
-    requires { ⌜ Laid (now rows) (now spans) (reach .count) × (reach .left ≤ 6) × (reach .depth ≤ 12) × (allowance ≤ 1000000) × (ordinal ≤ 12) ⌝ }
+    requires { ⌜ Laid (now rows) (now spans) (reach .count) × (reach .left ≤ taskNumbers) × (reach .depth ≤ sectionNumbers) × (allowance ≤ million) × (ordinal ≤ sectionNumbers) ⌝ }
     ensures is { λ o. ⌜ Spends (now (rows .entry)) (setsOf (now (outer .entry))) (reach .count) (λ s. level (reach .left) (reach .depth) s (now (b .entry)) task (parentOf ordinal) (resourcesOf r)) allowance o ⌝ }
     ensures fair { λ o. ⌜ Fair (reach .count) allowance o ⌝ }
 {

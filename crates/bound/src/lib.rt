@@ -8,6 +8,14 @@ pub mod table;
 
 use model::TaskNo;
 
+// The most tasks and sections that a table may have.
+pub const TASKS: usize = 6;
+
+pub const SECTIONS: usize = 12;
+
+// The longest section, and the largest allowance.
+pub const MILLION: u32 = 1000000;
+
 // Where a section stands: in none, or directly in the section of that number.
 pub enum Parent {
     Outermost,
@@ -25,7 +33,7 @@ pub struct Section {
 pub struct Sections {
     pub tasks: u16,
     pub count: u16,
-    pub section: [Section; 12],
+    pub section: [Section; SECTIONS],
 }
 
 // What the tests of a table find: a refusal's number, or none.

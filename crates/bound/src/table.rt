@@ -5,8 +5,9 @@ ghost use mathlib.Core.Option.{none};
 ghost use Prim.Native.Nat.{_<_, _≤_};
 ghost use Rattle.laws.specs.Tests.{if_then_else_, firstOf};
 ghost use Rattle.laws.specs.Loops.{allTo, foldTo};
-ghost use Rattle.bound.specs.Table.{directlyIn, childrenFit, sectionTests, sectionRefusal, tableRefusal, refusal, verdict};
+ghost use Rattle.bound.specs.Table.{sectionNumbers, directlyIn, childrenFit, sectionTests, sectionRefusal, tableRefusal, refusal, verdict};
 ghost use Rattle.bound.specs.Computed.{firstRefused, refusedIf, parentTests};
+use crate::MILLION;
 use crate::Parent;
 use crate::Section;
 use crate::Sections;
@@ -34,7 +35,7 @@ fn refused_if(n: u16, b: bool) -> Verdict
 
 // 41 or 42 for section i, where its parent is said to be p.
 fn parent_refusal(s: Sections, i: usize, p: usize) -> Verdict
-    requires { ⌜ i < 12 ⌝ }
+    requires { ⌜ i < sectionNumbers ⌝ }
     ensures { λ r. ⌜ r ≡ verdict (firstOf (parentTests s i p)) ⌝ }
 {
     if i <= p {
@@ -50,12 +51,12 @@ fn parent_refusal(s: Sections, i: usize, p: usize) -> Verdict
 
 // 41 or 42 for section i.
 fn section_refusal(s: Sections, i: usize) -> Verdict
-    requires { ⌜ i < 12 ⌝ }
+    requires { ⌜ i < sectionNumbers ⌝ }
     ensures { λ r. ⌜ r ≡ verdict (firstOf (sectionTests s i)) ⌝ }
 {
     let section = s.section[i];
     let there = (section.task.0 < s.tasks) & (section.resource <= 15);
-    if !(there & (1 <= section.length) & (section.length <= 1000000)) {
+    if !(there & (1 <= section.length) & (section.length <= MILLION)) {
         return Verdict::Refused(41);
     }
     let parent = section.parent;
@@ -67,7 +68,7 @@ fn section_refusal(s: Sections, i: usize) -> Verdict
 
 // 41 and 42, by section.
 fn sections_refusal(s: Sections) -> Verdict
-    requires { ⌜ s .count ≤ 12 ⌝ }
+    requires { ⌜ s .count ≤ sectionNumbers ⌝ }
     ensures { λ r. ⌜ r ≡ verdict (foldTo (s .count) (sectionRefusal s) none) ⌝ }
 {
     let count = s.count as usize;
@@ -96,7 +97,7 @@ fn child_length(section: Section, i: usize) -> u64
 
 // "children's lengths sum to at most the parent's"
 fn children_fit(s: Sections, i: usize) -> bool
-    requires { ⌜ (s .count ≤ 12) × (i < 12) ⌝ }
+    requires { ⌜ (s .count ≤ sectionNumbers) × (i < sectionNumbers) ⌝ }
     ensures { λ r. ⌜ r ≡ childrenFit s i ⌝ }
 {
     let count = s.count as usize;
@@ -111,7 +112,7 @@ fn children_fit(s: Sections, i: usize) -> bool
 
 // 43 is for a table of which this does not hold.
 fn all_children_fit(s: Sections) -> bool
-    requires { ⌜ s .count ≤ 12 ⌝ }
+    requires { ⌜ s .count ≤ sectionNumbers ⌝ }
     ensures { λ r. ⌜ r ≡ allTo (s .count) (childrenFit s) ⌝ }
 {
     let count = s.count as usize;
@@ -138,6 +139,6 @@ pub(crate) fn refusal(s: Sections, task: TaskNo, allowance: u32) -> Verdict
     ensures { λ r. ⌜ r ≡ verdict (refusal s (task .0) allowance) ⌝ }
 {
     let no_task = refused_if(44, !(task.0 < s.tasks));
-    let no_allowance = refused_if(45, !((1 <= allowance) & (allowance <= 1000000)));
+    let no_allowance = refused_if(45, !((1 <= allowance) & (allowance <= MILLION)));
     or_else(table_refusal(s), or_else(no_task, no_allowance))
 }
