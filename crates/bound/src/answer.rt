@@ -14,7 +14,7 @@ use crate::sets;
 use crate::table;
 use model::TaskNo;
 
-// "Start: outermost sections, B the task itself, R empty"
+// "Start: outermost sections, B the task itself, R empty" (`Answered.spent-is`, `Answered.answer-of`)
 pub fn bound(s: Sections, task: TaskNo, allowance: u32) -> Bounded
     ensures { λ r. ⌜ r ≡ answer s (task .0) allowance ⌝ }
 {

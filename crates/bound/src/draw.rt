@@ -69,6 +69,7 @@ fn row(section: Section) -> [usize; 4]
     [task, resource, length, ordinal(parent)]
 }
 
+// A row for each section of the table (`Drawing.rows-drawn`).
 pub(crate) fn rows(s: Sections) -> [[usize; 4]; SECTIONS]
     requires { ⌜ s .count ≤ sectionNumbers ⌝ }
     ensures { λ r. ⌜ r ≡ rowsOf s ⌝ }
@@ -100,7 +101,7 @@ fn around(
     sets::with_resource(outers[parent], rows[parent][RESOURCE])
 }
 
-// The outer resources of each section. A parent comes before its children, so its own are drawn already.
+// The outer resources of each section (`Drawing.outers-shown`). A parent comes before its children, so its own are drawn already.
 pub(crate) fn outers(rows: &[[usize; 4]; SECTIONS], count: usize) -> [u16; SECTIONS]
     requires { ⌜ Ranged (now rows) count ⌝ }
     ensures { λ r. ⌜ setsOf r ≡ outersIn (now (rows .entry)) count ⌝ }
@@ -125,7 +126,7 @@ fn widened(span: [usize; 2], i: usize) -> [usize; 2]
 }
 
 // Where the sections of a task on a resource stand, or those directly in the section of an ordinal: the first number and the end of the numbers.
-// No calculation looks at a section outside the span that it asks for.
+// No calculation looks at a section outside the span that it asks for (`Spans.spans-done`, `Skips`).
 pub(crate) fn spans(rows: &[[usize; 4]; SECTIONS], count: usize) -> [[usize; 2]; SPANS]
     requires { ⌜ Ranged (now rows) count ⌝ }
     ensures { λ r. ⌜ Spanned (now (rows .entry)) r count ⌝ }

@@ -1,6 +1,8 @@
 // The interference sum and the ordering value, which call one another until tasks and depth run out (01, "Interference bound"). An allowance is
-// spent for each section weighed, and nothing more is weighed once it is exceeded. The table comes as rows of four numbers for each section,
-// their outer resources, and where a calculation's sections stand (`draw`), so that no weighing copies it. The contracts say what is answered for every table that these show. Assumes nothing.
+// spent for each section weighed, and nothing more is weighed once it is exceeded. The table comes as rows of four numbers for each section, their
+// outer resources, and where a calculation's sections stand (`draw`), so that no weighing copies it. A contract says what a function leaves of the
+// allowance (`Spends`) for the calculation of `Interference` that it names, on every table that the arrays show; the law in brackets is what joins the
+// code's way with that definition. Assumes nothing.
 ghost use mathlib.Core.Path.{_≡_};
 ghost use mathlib.Core.Bool.{true, _&&_};
 ghost use Prim.Native.Nat.{_+_, _-_, _<_, _≤_};
@@ -52,7 +54,7 @@ fn larger(a: u64, b: u64) -> u64
     if a < b { b } else { a }
 }
 
-// Held once the giver, a section or none, has been chosen.
+// Held once the giver, a section or none, has been chosen (`Steps.held-is`).
 fn held_after(outer: &[u16; SECTIONS], held: u16, giver: usize) -> u16
     requires { ⌜ giver ≤ sectionNumbers ⌝ }
     ensures { λ r. ⌜ resourcesOf r ≡ heldBy (setsOf (now (outer .entry))) (resourcesOf held) giver ⌝ }
@@ -63,7 +65,7 @@ fn held_after(outer: &[u16; SECTIONS], held: u16, giver: usize) -> u16
     sets::joined(held, outer[giver - 1])
 }
 
-// The tasks outside B that have a section on the resource.
+// The tasks outside B that have a section on the resource (`Steps.blocker-turn`).
 fn blockers(
     rows: &[[usize; 4]; SECTIONS],
     count: usize,
@@ -81,7 +83,8 @@ fn blockers(
     found
 }
 
-// What section i weighs, if it is the task's on the resource: nothing where its outer resources meet Held, else its length and its children.
+// What section i weighs, if it is the task's on the resource: nothing where its outer resources meet Held, else its length and its
+// children (`Steps.weigh-is`).
 fn weigh(
     rows: &[[usize; 4]; SECTIONS],
     spans: &[[usize; 2]; SPANS],
@@ -122,7 +125,7 @@ fn weigh(
     Tally::Of(rows[i][LENGTH] as u64 + value, 0, left)
 }
 
-// "The first greatest counts": of the task's sections on the resource, by number.
+// "The first greatest counts": of the task's sections on the resource, by number (`Skips.best-to`).
 fn first_greatest(
     rows: &[[usize; 4]; SECTIONS],
     spans: &[[usize; 2]; SPANS],
@@ -158,7 +161,7 @@ fn first_greatest(
     Tally::Of(value, giver, kept)
 }
 
-// "trying each remaining task next, then each remaining after it": this task next, which remains.
+// "trying each remaining task next, then each remaining after it": this task next, which remains (`Steps.tried-is`).
 fn tried_next(
     rows: &[[usize; 4]; SECTIONS],
     spans: &[[usize; 2]; SPANS],
@@ -213,7 +216,7 @@ fn tried_next(
     Tally::Of(next + later, 0, left)
 }
 
-// The remaining tasks "in the order giving the largest sum".
+// The remaining tasks "in the order giving the largest sum" (`Steps.order-made`).
 fn largest_order(
     rows: &[[usize; 4]; SECTIONS],
     spans: &[[usize; 2]; SPANS],
@@ -260,6 +263,7 @@ fn largest_order(
 }
 
 // "Ordering value: the tasks outside B that have a section on c's resource, in the order giving the largest sum. Held starts as that R."
+// (`Steps.own-is`)
 fn ordering_value(
     rows: &[[usize; 4]; SECTIONS],
     spans: &[[usize; 2]; SPANS],
@@ -293,7 +297,8 @@ fn ordering_value(
     )
 }
 
-// "the ordering value, plus the same calculation on c's direct children, both with R and c's resource": of section c, if it stands there.
+// "the ordering value, plus the same calculation on c's direct children, both with R and c's resource": of section c, if it stands
+// there (`Steps.sum-is`).
 fn sum_over(
     rows: &[[usize; 4]; SECTIONS],
     spans: &[[usize; 2]; SPANS],
@@ -331,7 +336,7 @@ fn sum_over(
     Tally::Of(ordered + value, 0, left)
 }
 
-// "sum over the sections c" of the task that stand directly in the section of the ordinal.
+// "sum over the sections c" of the task that stand directly in the section of the ordinal (`Skips.sum-to`, `Steps.sum-made`).
 pub(crate) fn interference_sum(
     rows: &[[usize; 4]; SECTIONS],
     spans: &[[usize; 2]; SPANS],

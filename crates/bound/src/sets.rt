@@ -1,4 +1,4 @@
-// Sets of tasks, a test for each number, and of resources, a bit for each. Assumes nothing.
+// Sets of tasks, a test for each number, and of resources, a bit for each (laws of `Masks`). Assumes nothing.
 ghost use mathlib.Core.Path.{_≡_};
 ghost use Prim.Native.Nat.{_<_};
 ghost use Rattle.bound.specs.Sets.{taskNumbers, resourceNumbers, with, without, joined, meets};
