@@ -31,7 +31,7 @@ pub(crate) const FROM: usize = 0;
 
 pub(crate) const END: usize = 1;
 
-// The number of the span of a task's sections on a resource.
+// The number of the span of a task's sections on a resource. `small` follows from `is`, and saves every caller the proof of its index; so below.
 pub(crate) fn on_span(task: usize, resource: usize) -> usize
     requires { ⌜ (task < taskNumbers) × (resource < resourceNumbers) ⌝ }
     ensures is { λ r. ⌜ r ≡ onSpan task resource ⌝ }

@@ -75,31 +75,21 @@ module _ (t : ℕ) where
       let known = c .before .before in
       let call = known .before .before in
       let at-loop = call .before .before in
-      let fair = fair-of _ _ _ _ _ _ (known .weighed .given .1) (call .weigh .ensures .1) in
-      ⊎-elim
-      (λ w. (
+      let fair = fair-of _ _ _ _ _ _ (known .weighed .given .1) (call .weigh .ensures .1) in (
         omega arith,
         at-loop .loop .inv .1,
         omega arith,
         omega arith,
-        omega arith,
-        omega arith,
+        ⊎-elim (λ w. omega (arith, w .2)) (λ w. omega (arith, w .2)) (c .if1 .came),
+        ⊎-elim (λ w. omega (arith, w .1)) (λ w. omega (arith, w .1)) (c .if1 .came),
         λ s shown.
-            best-greater _ _ _ _ _ _ _ _ _ (sym (known .weighed .given .1) ∙ call .weigh .ensures .0 s shown) (at-loop .loop .inv .6 s shown) _ _
-            (w .0 .taken) (w .1) (w .2),
-      ))
-      (λ w. (
-        omega arith,
-        at-loop .loop .inv .1,
-        omega arith,
-        omega arith,
-        omega arith,
-        omega arith,
-        λ s shown.
-            best-stays _ _ _ _ _ _ _ _ _ (sym (known .weighed .given .1) ∙ call .weigh .ensures .0 s shown) (at-loop .loop .inv .6 s shown) _ _
-            (w .0 .left) (w .1) (w .2),
-      ))
-      (c .if1 .came)
+            let made = sym (known .weighed .given .1) ∙ call .weigh .ensures .0 s shown in
+            let found = at-loop .loop .inv .6 s shown in
+            ⊎-elim
+            (λ w. best-greater _ _ _ _ _ _ _ _ _ made found _ _ (w .0 .taken) (w .1) (w .2))
+            (λ w. best-stays _ _ _ _ _ _ _ _ _ made found _ _ (w .0 .left) (w .1) (w .2))
+            (c .if1 .came),
+      )
 
   all-weighed : first-greatest-lts.Need-returns-2 (calls t) (first-greatest-at t) first-greatest.Post Inv-loop μ-loop
   all-weighed c =
