@@ -1,5 +1,5 @@
 -- Laws of `sums`: it depends on `depth` no further than there are sections left to nest. Assumes an accepted table.
-use mathlib.Core.Path.{_≡_, refl, sym, ap}
+use mathlib.Core.Path.{_≡_, refl, sym}
 use mathlib.Core.Bool.{true}
 use Prim.Native.Nat.{ℕ, zero, suc, _-_, _<_, _≤_}
 use native.Mathlib.Omega.{arith}
@@ -11,7 +11,7 @@ use Rattle.bound.specs.declared.Parent.the-variants.{Outermost, Inside}
 use Rattle.bound.specs.declared.Sections.{Sections}
 use Rattle.bound.specs.Sets.{Resources, with}
 use Rattle.bound.specs.Table.{sectionAt, directlyIn}
-use Rattle.bound.specs.Interference.{Weighed, nothing, gathered, isIn, sumOver, sums}
+use Rattle.bound.specs.Interference.{Weighed, nothing, isIn, sumOver, sums}
 use Rattle.bound.proofs.Accepted.{Accepted}
 use Rattle.bound.proofs.Gathered.{gathered-same, gathered-none, enough}
 

@@ -16,7 +16,7 @@ use Rattle.laws.proofs.Lists.{getD-set}
 use Rattle.bound.specs.declared.Sections.{Sections}
 use Rattle.bound.specs.Sets.{Tasks, Resources, has, without}
 use Rattle.bound.specs.Table.{sectionAt}
-use Rattle.bound.specs.Interference.{Weighed, Weighing, nothing, gathered, weighedOn, firstGreatest, best, heldAfter, triedNext, order}
+use Rattle.bound.specs.Interference.{Weighed, Weighing, nothing, weighedOn, firstGreatest, best, heldAfter, triedNext, order}
 use Rattle.bound.proofs.Gathered.{gathered-same, gathered-none, enough}
 
 -- how many tasks remain

@@ -1,7 +1,7 @@
 -- What the arrays show of the table at each step of the calculation, and what a step is made of. Assumes nothing.
-use mathlib.Core.Path.{_≡_, refl, sym, ap, ap₂, _∙_}
+use mathlib.Core.Path.{_≡_, refl, sym, ap, _∙_}
 use mathlib.Core.Bool.{Bool, true, false, not, _&&_, _||_}
-use mathlib.Core.List.{List, []}
+use mathlib.Core.List.{List}
 use mathlib.Core.Option.{Option, none, some}
 use Prim.Native.Nat.{ℕ, zero, suc, _+_, _-_, _<_, _≤_}
 use native.Mathlib.Numerals.{add-one, sub-one}
@@ -13,13 +13,12 @@ use borrow.Author.Tests.{le-ltb, eqb-true, eq-eqb, ne-eqb, eqb-false}
 use Rattle.laws.specs.Tests.{if_then_else_}
 use Rattle.laws.proofs.Cases.{split, and-left}
 use Rattle.bound.specs.declared.Parent.{Parent}
-use Rattle.bound.specs.declared.Parent.the-variants.{Inside}
 use Rattle.bound.specs.declared.Sections.{Sections}
 use Rattle.bound.specs.declared.Tally.{Tally}
 use Rattle.bound.specs.declared.Tally.the-variants.{Of, Exceeded}
 use Rattle.bound.specs.Sets.{Tasks, Resources, has, with, without, joined, meets}
 use Rattle.bound.specs.Table.{sectionAt, outer, directlyIn}
-use Rattle.bound.specs.Interference.{Weighed, weighed, nothing, both, larger, gathered, Calculation, Weighing, weighingIf, weighing, isOn, weighedOn, firstGreatest, best, heldAfter, triedNext, order, blocker, blockers, ordering, isIn, sumOver, sums, level}
+use Rattle.bound.specs.Interference.{Weighed, weighed, both, larger, gathered, Calculation, Weighing, weighingIf, weighing, isOn, weighedOn, firstGreatest, best, heldAfter, triedNext, order, blocker, blockers, ordering, isIn, sumOver, sums, level}
 use Rattle.bound.specs.Computed.{resourcesOf, setsOf, Rows, taskIn, resourceIn, lengthIn, parentIn, parentOf, ordinalOf, heldBy, Drawn, Shown, spend, Grown, Fair}
 use Rattle.bound.proofs.Masks.{sets-at}
 use Rattle.bound.proofs.Turns.{lasted, exceeds, nothing-of, one-of, turn-out}

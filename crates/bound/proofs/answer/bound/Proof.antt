@@ -5,7 +5,7 @@ use borrow.Author.Needs.{needs}
 use native.Mathlib.Omega.{arith}
 use Rattle.bound.specs.Table.{refusal}
 use Rattle.bound.specs.Interference.{bound}
-use Rattle.bound.specs.Computed.{Laid, spend}
+use Rattle.bound.specs.Computed.{spend}
 use Rattle.bound.proofs.Answers.{table-accepted, task-there, allowance-most}
 use Rattle.bound.proofs.Answered.{told-none, told-refused, ranged, shown, spent-is, answer-of, answer-exceeded}
 use Rattle.bound.proofs.Steps.{fair-of}
