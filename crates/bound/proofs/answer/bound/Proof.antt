@@ -95,23 +95,6 @@ pub bound-spec : {M : Type 1} → statement M
 bound-spec =
     tie.close
     (tie.spec
-    (λ c κs. search needs)
-    (λ c. search needs)
-    returns
-    (λ c. search needs)
-    (λ c. search needs)
-    rows-requires
-    (λ c. search needs)
-    spans-requires
-    (λ c. search needs)
-    outers-requires
-    (λ c. search needs)
-    (λ c. search needs)
-    sub-left
-    with-task-requires
-    interference-sum-requires
-    (λ c. search needs)
-    (λ c. search needs)
-    returns-2
-    sub-left-over
-    returns-3)
+    (λ c κs. search needs) (λ c. search needs) returns (λ c. search needs) (λ c. search needs) rows-requires (λ c. search needs)
+    spans-requires (λ c. search needs) outers-requires (λ c. search needs) (λ c. search needs) sub-left with-task-requires
+    interference-sum-requires (λ c. search needs) (λ c. search needs) returns-2 sub-left-over returns-3)
