@@ -17,18 +17,18 @@ use Rattle.laws.proofs.All.{all-at}
 use Rattle.bound.specs.declared.Parent.{Parent}
 use Rattle.bound.specs.declared.Parent.the-variants.{Outermost, Inside}
 use Rattle.bound.specs.declared.Sections.{Sections}
-use Rattle.bound.specs.Table.{sectionAt, countsFit, parentFits, sectionFits, above, childLength, childrenFit, sectionRefusal, tableRefusal}
+use Rattle.bound.specs.Table.{sectionAt, countsFit, parentFits, sectionFits, above, childLength, childrenFit, sectionTests, sectionRefusal, tableRefusal}
 
 pub record Accepted (s : Sections) : Type 0 where
   pub tasks-least : 1 ≤ s .tasks
   pub tasks-most : s .tasks ≤ 6
   pub count-most : s .count ≤ 12
-  pub task-there : (i : ℕ) → i < s .count → sectionAt s i .task < s .tasks
+  pub task-there : (i : ℕ) → i < s .count → sectionAt s i .task .0 < s .tasks
   pub resource-most : (i : ℕ) → i < s .count → sectionAt s i .resource ≤ 15
   pub length-least : (i : ℕ) → i < s .count → 1 ≤ sectionAt s i .length
   pub length-most : (i : ℕ) → i < s .count → sectionAt s i .length ≤ 1000000
   pub parent-earlier : (i p : ℕ) → i < s .count → sectionAt s i .parent ≡ Inside p → p < i
-  pub parent-task : (i p : ℕ) → i < s .count → sectionAt s i .parent ≡ Inside p → sectionAt s p .task ≡ sectionAt s i .task
+  pub parent-task : (i p : ℕ) → i < s .count → sectionAt s i .parent ≡ Inside p → sectionAt s p .task .0 ≡ sectionAt s i .task .0
   pub parent-below : (i p : ℕ) → i < s .count → sectionAt s i .parent ≡ Inside p → sectionAt s p .resource < sectionAt s i .resource
   pub children-most : (i : ℕ) → i < s .count → sumTo (s .count) (childLength s i) ≤ sectionAt s i .length
 
@@ -51,20 +51,17 @@ module _ (s : Sections) where
   abbrev after-41 : ℕ → List (ℕ × Bool)
   after-41 i = 42 when not (above s (sectionAt s i .resource) (sectionAt s i .parent)) or accepted
 
-  abbrev tests : ℕ → List (ℕ × Bool)
-  tests i = 41 when not (sectionFits s i) or after-41 i
-
   -- 41 and 42, of each section
-  section-passed : (n i : ℕ) → i < n → foldTo n (sectionRefusal s) none ≡ none → firstOf (tests i) ≡ none
+  section-passed : (n i : ℕ) → i < n → foldTo n (sectionRefusal s) none ≡ none → firstOf (sectionTests s i) ≡ none
   unfolding foldTo sectionRefusal
   section-passed zero i l e = absurd (omega arith)
   section-passed (suc n) i l e =
       ⊎-elim
-      (λ (q : i ≡ n). rw q (later-none (foldTo n (sectionRefusal s) none) (firstOf (tests n)) e))
-      (λ (m : i < n). section-passed n i m (earlier-none (foldTo n (sectionRefusal s) none) (firstOf (tests n)) e))
+      (λ (q : i ≡ n). rw q (later-none (foldTo n (sectionRefusal s) none) (firstOf (sectionTests s n)) e))
+      (λ (m : i < n). section-passed n i m (earlier-none (foldTo n (sectionRefusal s) none) (firstOf (sectionTests s n)) e))
       (last-or-below i n l)
 
-  parent-fits : (i p : ℕ) (o : Parent) → parentFits s i o ≡ true → o ≡ Inside p → (p < i) × (sectionAt s p .task ≡ sectionAt s i .task)
+  parent-fits : (i p : ℕ) (o : Parent) → parentFits s i o ≡ true → o ≡ Inside p → (p < i) × (sectionAt s p .task .0 ≡ sectionAt s i .task .0)
   parent-fits i p Outermost h e = absurd (let z : _≡_ {A = ℕ} 0 1 = cc in omega arith)
   parent-fits i p (Inside k) h e =
       let q : k ≡ p = cc in
@@ -77,7 +74,7 @@ module _ (s : Sections) where
   -- 41 as facts
   fits
       : (i : ℕ) → sectionFits s i ≡ true
-      → ((((sectionAt s i .task < s .tasks) × (sectionAt s i .resource ≤ 15)) × (1 ≤ sectionAt s i .length)) × (sectionAt s i .length ≤ 1000000))
+      → ((((sectionAt s i .task .0 < s .tasks) × (sectionAt s i .resource ≤ 15)) × (1 ≤ sectionAt s i .length)) × (sectionAt s i .length ≤ 1000000))
       × (parentFits s i (sectionAt s i .parent) ≡ true)
   unfolding sectionFits
   fits i =

@@ -1,35 +1,36 @@
 -- From what the calculation leaves of the allowance to what is answered. Assumes nothing.
-use mathlib.Core.Path.{_≡_, refl, sym, ap, _∙_}
+use mathlib.Core.Path.{_≡_, sym, _∙_}
 use mathlib.Core.List.{List}
 use mathlib.Core.Option.{none}
-use Prim.Native.Nat.{ℕ, zero, suc, _-_}
+use Prim.Native.Nat.{ℕ, _-_}
 use native.Mathlib.Omega.{arith}
 use borrow.Author.Tests.{lt-ltb, le-ltb}
 use Rattle.bound.specs.declared.Bounded.the-variants.{Bound, Refused}
 use Rattle.bound.specs.declared.Parent.the-variants.{Outermost}
 use Rattle.bound.specs.declared.Sections.{Sections}
 use Rattle.bound.specs.declared.Tally.the-variants.{Of, Exceeded}
-use Rattle.bound.specs.Sets.{Tasks, Resources, noTask, with, resourcesOf}
-use Rattle.bound.specs.Table.{refusal}
-use Rattle.bound.specs.Interference.{bound}
+use Rattle.bound.specs.declared.Verdict.{Verdict}
+use Rattle.bound.specs.declared.Verdict.the-variants as verdicts
+use Rattle.bound.specs.Sets.{Tasks, Resources, noTask, with}
+use Rattle.bound.specs.Table.{refusal, verdict}
+use Rattle.bound.specs.Interference.{level, bound}
 use Rattle.bound.specs.Answer.{answer}
-use Rattle.bound.specs.Spending.{spend}
-use Rattle.bound.specs.Drawn.{Rows, rowsOf, outersIn, Ranged, Shown, sumsAt}
-use Rattle.bound.specs.Numbered.{numbered}
+use Rattle.bound.specs.Computed.{resourcesOf, spend, Rows, rowsOf, outersIn, Ranged, Shown}
 use Rattle.bound.proofs.Accepted.{Accepted}
 use Rattle.bound.proofs.Answers.{table-accepted}
 use Rattle.bound.proofs.Drawing.{rows-drawn, rows-ranged, outers-shown}
 use Rattle.bound.proofs.Turns.{lasted, exceeded}
+use Rattle.bound.proofs.Refusals.{verdict-none, verdict-some}
 use Rattle.bound.proofs.Masks.{mask-none}
-use Rattle.bound.proofs.Steps.{sums-level}
 
-pub number-none : (n : ℕ) (s : Sections) (t allowance : ℕ) → numbered n ≡ refusal s t allowance → n ≡ 0 → refusal s t allowance ≡ none
-number-none n s t allowance e z = sym e ∙ ap numbered z
+-- what the tests tell
+module _ (s : Sections) (t allowance : ℕ) (v : Verdict) (told : v ≡ verdict (refusal s t allowance)) where
+  pub told-none : v ≡ verdicts.Accepted → refusal s t allowance ≡ none
+  told-none e = verdict-none _ (sym told ∙ e)
 
-pub number-told : (n : ℕ) (s : Sections) (t allowance : ℕ) → numbered n ≡ refusal s t allowance → (n ≡ 0 → ⊥) → Refused n ≡ answer s t allowance
-unfolding answer
-number-told zero s t allowance e f = absurd (f refl)
-number-told (suc n) s t allowance e f = rw (← e)
+  pub told-refused : (n : ℕ) → v ≡ verdicts.Refused n → Refused n ≡ answer s t allowance
+  unfolding answer
+  told-refused n e = rw (verdict-some (refusal s t allowance) n (sym told ∙ e))
 
 module _ (s : Sections) (t allowance : ℕ) (free : refusal s t allowance ≡ none) where
   good : Accepted s
@@ -41,9 +42,9 @@ module _ (s : Sections) (t allowance : ℕ) (free : refusal s t allowance ≡ no
   pub shown : (rows : Rows) (outers : List Resources) → rows ≡ rowsOf s → outers ≡ outersIn rows (s .count) → Shown s rows outers (s .count)
   shown rows outers e d = rw (d, e) (outers-shown s good (rowsOf s) (s .count) (rows-drawn s (good .count-most)))
 
-  pub spent-is : (itself : Tasks) → itself ≡ with noTask t → spend (sumsAt (s .tasks - 1) 12 s itself t Outermost (resourcesOf 0)) allowance ≡ spend (bound s t) allowance
+  pub spent-is : (itself : Tasks) → itself ≡ with noTask t → spend (level (s .tasks - 1) 12 s itself t Outermost (resourcesOf 0)) allowance ≡ spend (bound s t) allowance
   unfolding bound
-  spent-is itself e = rw (e, mask-none, sums-level)
+  spent-is itself e = rw (e, mask-none)
 
   pub answer-of : (v u l : ℕ) → Of v u l ≡ spend (bound s t) allowance → Bound v (allowance - l) ≡ answer s t allowance
   unfolding answer

@@ -20,7 +20,7 @@ use Rattle.bound.specs.Sets.{Tasks, Resources, noTask, has, with, joined
 use Rattle.bound.specs.Table.{sectionAt, outer}
 use Rattle.bound.specs.Interference.{Calculation, weighingIf, weighing, blocker, blockers, ordering, sums, level}
 use Rattle.bound.proofs.Accepted.{Accepted}
-use Rattle.bound.proofs.Runs.{enough}
+use Rattle.bound.proofs.Gathered.{enough}
 use Rattle.bound.proofs.Orders.{remain, order-none, order-same, order-more}
 use Rattle.bound.proofs.Depths.{sums-none}
 
@@ -52,15 +52,15 @@ module _ (s : Sections) (good : Accepted s) where
   unfolding blocker isOutside
   found-turn q b i l found f =
       split
-      (eqb (sectionAt s i .resource) q && not (has b (sectionAt s i .task)))
+      (eqb (sectionAt s i .resource) q && not (has b (sectionAt s i .task .0)))
       (λ y.
       rw y (record {
         six = length-set found _ true ∙ f .six;
         each = λ x e.
             split
-            (eqb x (sectionAt s i .task))
-            (λ k. rw (eqb-true x (sectionAt s i .task) k) (and-both _ _ (lt-ltb _ _ (good .task-there i l)) (and-right (eqb (sectionAt s i .resource) q) _ y)))
-            (λ k. f .each x (sym (getD-set found (sectionAt s i .task) x true false (omega (arith, good .task-there i l)) ∙ rw k) ∙ e));
+            (eqb x (sectionAt s i .task .0))
+            (λ k. rw (eqb-true x (sectionAt s i .task .0) k) (and-both _ _ (lt-ltb _ _ (good .task-there i l)) (and-right (eqb (sectionAt s i .resource) q) _ y)))
+            (λ k. f .each x (sym (getD-set found (sectionAt s i .task .0) x true false (omega (arith, good .task-there i l)) ∙ rw k) ∙ e));
       }))
       (λ n. rw n f)
 
@@ -77,7 +77,7 @@ module _ (s : Sections) (good : Accepted s) where
   blockers-most q b = count-mono 6 (has (blockers s q b)) (isOutside s b) (λ x l. blockers-found q b .each x)
 
   -- a section weighs the same by calculations that agree once its task has joined B
-  weighing-same : (f g : Calculation) (b : Tasks) (hold : Resources) (i : ℕ) → let x = sectionAt s i .task in
+  weighing-same : (f g : Calculation) (b : Tasks) (hold : Resources) (i : ℕ) → let x = sectionAt s i .task .0 in
       ((p : Parent) (r : Resources) → f (with b x) x p r ≡ g (with b x) x p r) → weighing f s b hold i ≡ weighing g s b hold i
   unfolding weighingIf
   weighing-same f g b hold i e = split (meets (outer s i) hold) (λ y. rw y) (λ n. rw (n, e (Inside i) (joined hold (outer s i))))
@@ -97,18 +97,18 @@ module _ (s : Sections) (good : Accepted s) where
 
   level-step
       : (left : ℕ) (b : Tasks) (t : ℕ) (p : Parent) (r : Resources) → length b ≡ 6 → outside s b ≤ left
-      → level left s b t p r ≡ level (suc left) s b t p r
+      → level left 12 s b t p r ≡ level (suc left) 12 s b t p r
   unfolding level ordering
   level-step zero b t p r six h =
       sym (sums-none s t _ 12 p r (λ q entry. order-none s q b _ 1 (blockers s q b) entry (omega (arith, blockers-most q b))))
   level-step (suc left) b t p r six h =
       ap (λ ordered. sums 12 ordered s t p r)
       (fun-ext (λ q. fun-ext (λ entry.
-      ordering-same (level left s) (level (suc left) s) (suc left) (suc (suc left)) b q entry h (omega arith)
+      ordering-same (level left 12 s) (level (suc left) 12 s) (suc left) (suc (suc left)) b q entry h (omega arith)
       (λ x o w e. level-step left (with b x) x o w (length-set b x true ∙ six) (omega (arith, outside-with s b x six (outside-six b x e) e))))))
 
   -- `left` at least the tasks outside B
   pub level-more
       : (left : ℕ) (b : Tasks) (t : ℕ) (p : Parent) (r : Resources) → length b ≡ 6 → outside s b ≤ left
-      → level left s b t p r ≡ level (outside s b) s b t p r
-  level-more left b t p r six = enough (λ k. level k s b t p r) (outside s b) (λ k. level-step k b t p r six) left
+      → level left 12 s b t p r ≡ level (outside s b) 12 s b t p r
+  level-more left b t p r six = enough (λ k. level k 12 s b t p r) (outside s b) (λ k. level-step k b t p r six) left

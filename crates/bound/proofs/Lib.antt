@@ -1,6 +1,6 @@
 pub mod Accepted
 pub mod Outwards
-pub mod Runs
+pub mod Gathered
 pub mod Orders
 pub mod Depths
 pub mod Levels

@@ -14,13 +14,14 @@ use lib.ListN.{length, getD, set, replicate, length-set}
 use lib.Pow.{shr-shr, shr-lt}
 use lib.Seq.{ext-getD}
 use borrow.Author.Tests.{eqb-true, eq-eqb}
-use Rattle.laws.specs.Tests.{_iff_}
+use Rattle.laws.specs.Tests.{_iff_, bit}
 use Rattle.laws.specs.Loops.{allTo, setTo}
 use Rattle.laws.proofs.All.{all-at, all-ext}
 use Rattle.laws.proofs.Cases.{split, tests-same}
 use Rattle.laws.proofs.Lists.{getD-set}
 use Rattle.laws.proofs.Set.{set-at, length-setTo}
-use Rattle.bound.specs.Sets.{Resources, noResource, has, with, inEither, joined, notInBoth, meets, inMask, resourcesOf, setAt, setsOf}
+use Rattle.bound.specs.Sets.{Resources, noResource, has, with, inEither, joined, notInBoth, meets}
+use Rattle.bound.specs.Computed.{inMask, resourcesOf, setAt, setsOf}
 
 sixteen : (m : ℕ) → length (resourcesOf m) ≡ 16
 unfolding resourcesOf
@@ -40,42 +41,38 @@ digit zero l = inl refl
 digit (suc zero) l = inr refl
 digit (suc (suc x)) l = absurd (omega arith)
 
-either : (x y : ℕ) → x < 2 → y < 2 → eqb (max x y) 1 ≡ (eqb x 1 || eqb y 1)
-either x y l m =
-    ⊎-elim
-    (λ (e : x ≡ 0). ⊎-elim (λ (d : y ≡ 0). rw (e, d)) (λ (d : y ≡ 1). rw (e, d)) (digit y m))
-    (λ (e : x ≡ 1). ⊎-elim (λ (d : y ≡ 0). rw (e, d)) (λ (d : y ≡ 1). rw (e, d)) (digit y m))
-    (digit x l)
-
-both : (x y : ℕ) → x < 2 → y < 2 → eqb (min x y) 1 ≡ (eqb x 1 && eqb y 1)
-both x y l m =
-    ⊎-elim
-    (λ (e : x ≡ 0). ⊎-elim (λ (d : y ≡ 0). rw (e, d)) (λ (d : y ≡ 1). rw (e, d)) (digit y m))
-    (λ (e : x ≡ 1). ⊎-elim (λ (d : y ≡ 0). rw (e, d)) (λ (d : y ≡ 1). rw (e, d)) (digit y m))
-    (digit x l)
-
 low : (x : ℕ) → x % 2 < 2
 low x = mod-lt x (omega arith)
 
+-- an operation digit by digit, and the test of its bits that it makes
+module _ (op digits : ℕ → ℕ → ℕ) (test : Bool → Bool → Bool)
+    (shr : (a b r : ℕ) → op a b / 2 ^ r ≡ op (a / 2 ^ r) (b / 2 ^ r))
+    (step : (a b : ℕ) → op a b ≡ op (a / 2) (b / 2) * 2 + digits (a % 2) (b % 2))
+    (table : (digits 0 0 ≡ bit (test false false)) × (digits 0 1 ≡ bit (test false true)) × (digits 1 0 ≡ bit (test true false)) × (digits 1 1 ≡ bit (test true true))) where
+  digits-test : (x y : ℕ) → x < 2 → y < 2 → digits x y ≡ bit (test (eqb x 1) (eqb y 1))
+  digits-test x y l m =
+      ⊎-elim
+      (λ (e : x ≡ 0). ⊎-elim (λ (d : y ≡ 0). rw (e, d) (table .0)) (λ (d : y ≡ 1). rw (e, d) (table .1)) (digit y m))
+      (λ (e : x ≡ 1). ⊎-elim (λ (d : y ≡ 0). rw (e, d) (table .2)) (λ (d : y ≡ 1). rw (e, d) (table .3)) (digit y m))
+      (digit x l)
+
+  bit-made : (b : Bool) (h : ℕ) → eqb ((h * 2 + bit b) % 2) 1 ≡ b
+  bit-made true h = ap (λ n. eqb n 1) (digits-mod h (omega arith))
+  bit-made false h = ap (λ n. eqb n 1) (digits-mod h (omega arith))
+
+  mask-bit : (a b r : ℕ) → inMask (op a b) r ≡ test (inMask a r) (inMask b r)
+  unfolding inMask
+  mask-bit a b r =
+      let x = a / 2 ^ r in
+      let y = b / 2 ^ r in
+      ap (λ n. eqb (n % 2) 1) (shr a b r ∙ step x y)
+      ∙ ap (λ d. eqb ((op (x / 2) (y / 2) * 2 + d) % 2) 1) (digits-test (x % 2) (y % 2) (low x) (low y)) ∙ bit-made _ (op (x / 2) (y / 2))
+
 or-bit : (a b r : ℕ) → inMask (bitOr a b) r ≡ (inMask a r || inMask b r)
-unfolding inMask
-or-bit a b r =
-    let x = a / 2 ^ r in
-    let y = b / 2 ^ r in
-    let most : max (x % 2) (y % 2) < 2 = omega (arith, low x, low y) in
-    ap (λ n. eqb (n % 2) 1) (or-shr a b r ∙ or-step x y)
-    ∙ ap (λ n. eqb n 1) (digits-mod (bitOr (x / 2) (y / 2)) most)
-    ∙ either (x % 2) (y % 2) (low x) (low y)
+or-bit = mask-bit bitOr max _||_ or-shr or-step (refl, refl, refl, refl)
 
 and-bit : (a b r : ℕ) → inMask (bitAnd a b) r ≡ (inMask a r && inMask b r)
-unfolding inMask
-and-bit a b r =
-    let x = a / 2 ^ r in
-    let y = b / 2 ^ r in
-    let most : min (x % 2) (y % 2) < 2 = omega (arith, low x, low y) in
-    ap (λ n. eqb (n % 2) 1) (and-shr a b r ∙ and-step x y)
-    ∙ ap (λ n. eqb n 1) (digits-mod (bitAnd (x / 2) (y / 2)) most)
-    ∙ both (x % 2) (y % 2) (low x) (low y)
+and-bit = mask-bit bitAnd min _&&_ and-shr and-step (refl, refl, refl, refl)
 
 -- a number with one bit, as a shift makes it
 abbrev oneBit : ℕ → ℕ

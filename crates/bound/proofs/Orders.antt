@@ -2,7 +2,6 @@
 -- Assumes of sets of tasks that they are 6 long.
 use mathlib.Core.Path.{_≡_, refl, sym, ap, _∙_}
 use mathlib.Core.Bool.{true, false}
-use mathlib.Core.Option.{Option, none}
 use Prim.Native.Nat.{ℕ, zero, suc, _+_, _<_, _≤_}
 use native.Mathlib.Omega.{arith}
 use lib.Dec.{eqb}
@@ -17,8 +16,8 @@ use Rattle.laws.proofs.Lists.{getD-set}
 use Rattle.bound.specs.declared.Sections.{Sections}
 use Rattle.bound.specs.Sets.{Tasks, Resources, has, without}
 use Rattle.bound.specs.Table.{sectionAt}
-use Rattle.bound.specs.Interference.{Weighed, Weighing, weighed, nothing, bestTurn, best, heldAfter, orderTurn, order}
-use Rattle.bound.proofs.Runs.{run-same, run-idle, enough}
+use Rattle.bound.specs.Interference.{Weighed, Weighing, nothing, weighedOn, firstGreatest, best, heldAfter, triedNext, order}
+use Rattle.bound.proofs.Gathered.{gathered-same, gathered-none, enough}
 
 -- how many tasks remain
 abbrev pub remain : Tasks → ℕ
@@ -39,31 +38,21 @@ remain-without xs x six l e =
 -- a task's best depends on how its own sections weigh
 best-same
     : (f g : ℕ → Weighed) (s : Sections) (q x : ℕ)
-    → ((i : ℕ) → i < s .count → sectionAt s i .task ≡ x → f i ≡ g i) → best f s q x ≡ best g s q x
-unfolding best bestTurn
+    → ((i : ℕ) → i < s .count → sectionAt s i .task .0 ≡ x → f i ≡ g i) → best f s q x ≡ best g s q x
+unfolding best weighedOn
 best-same f g s q x e =
-    run-same _ _ (s .count) 0 0 none
-    (λ i l v o.
-    split
-    (eqb (sectionAt s i .task) x)
-    (λ t. rw (e i (omega arith) (eqb-true _ _ t)))
-    (λ t. rw t))
+    gathered-same firstGreatest _ _ (s .count)
+    (λ i l. split (eqb (sectionAt s i .task .0) x) (λ t. rw (e i l (eqb-true _ _ t))) (λ t. rw t))
 
 module _ (s : Sections) (q : ℕ) (b : Tasks) where
-  -- x does not remain
-  skipped : (weigh : Weighing) (after : Tasks → Tasks → Resources → Weighed) (remaining : Tasks) (held : Resources) (x v : ℕ) (o : Option ℕ)
-      → has remaining x ≡ false → orderTurn weigh after s q b remaining held x v o ≡ weighed v none 0
-  unfolding orderTurn
-  skipped weigh after remaining held x v o e = rw e
-
-  -- turns that agree where x remains
-  pub turn-same
-      : (f g : Weighing) (h k : Tasks → Tasks → Resources → Weighed) (remaining : Tasks) (held : Resources) (x v : ℕ) (o : Option ℕ)
-      → (has remaining x ≡ true → (i : ℕ) → i < s .count → sectionAt s i .task ≡ x → f b held i ≡ g b held i)
+  -- trials that agree where x remains
+  pub tried-same
+      : (f g : Weighing) (h k : Tasks → Tasks → Resources → Weighed) (remaining : Tasks) (held : Resources) (x : ℕ)
+      → (has remaining x ≡ true → (i : ℕ) → i < s .count → sectionAt s i .task .0 ≡ x → f b held i ≡ g b held i)
       → (has remaining x ≡ true → (hold : Resources) → h b (without remaining x) hold ≡ k b (without remaining x) hold)
-      → orderTurn f h s q b remaining held x v o ≡ orderTurn g k s q b remaining held x v o
-  unfolding orderTurn
-  turn-same f g h k remaining held x v o same later =
+      → triedNext f h s q b remaining held x ≡ triedNext g k s q b remaining held x
+  unfolding triedNext
+  tried-same f g h k remaining held x same later =
       split
       (has remaining x)
       (λ e. rw (best-same (f b held) (g b held) s q x (same e), later e (heldAfter s held (best (g b held) s q x .giver))))
@@ -73,22 +62,21 @@ module _ (s : Sections) (q : ℕ) (b : Tasks) where
   pub order-none
       : (weigh : Weighing) (left : ℕ) (remaining : Tasks) (held : Resources)
       → remain remaining ≡ 0 → order left weigh s q b remaining held ≡ nothing
-  unfolding order
+  unfolding order triedNext
   order-none weigh zero remaining held e = refl
-  order-none weigh (suc left) remaining held e =
-      run-idle _ 6 0 0 (λ x l v o. skipped weigh (order left weigh s q) remaining held x v o (zero-count 6 x (has remaining) e (omega arith)))
+  order-none weigh (suc left) remaining held e = gathered-none _ _ 6 (λ x. refl) (λ x l. rw (zero-count 6 x (has remaining) e l))
 
   -- the remaining tasks' sections weigh the same
   pub order-same
       : (f g : Weighing) (left : ℕ) (remaining : Tasks) (held : Resources) → length remaining ≡ 6
-      → ((i : ℕ) → i < s .count → has remaining (sectionAt s i .task) ≡ true → (hold : Resources) → f b hold i ≡ g b hold i)
+      → ((i : ℕ) → i < s .count → has remaining (sectionAt s i .task .0) ≡ true → (hold : Resources) → f b hold i ≡ g b hold i)
       → order left f s q b remaining held ≡ order left g s q b remaining held
   unfolding order
   order-same f g zero remaining held six e = refl
   order-same f g (suc left) remaining held six e =
-      run-same _ _ 6 0 0 none
-      (λ x l v o.
-      turn-same f g (order left f s q) (order left g s q) remaining held x v o
+      gathered-same _ _ _ 6
+      (λ x l.
+      tried-same f g (order left f s q) (order left g s q) remaining held x
       (λ h i m t. e i m (rw t h) held)
       (λ h hold.
       order-same f g left (without remaining x) hold (length-set remaining x false ∙ six)
@@ -100,9 +88,9 @@ module _ (s : Sections) (q : ℕ) (b : Tasks) where
   unfolding order
   order-step weigh zero remaining held six h = sym (order-none weigh 1 remaining held (omega arith))
   order-step weigh (suc left) remaining held six h =
-      run-same _ _ 6 0 0 none
-      (λ x l v o.
-      turn-same weigh weigh (order left weigh s q) (order (suc left) weigh s q) remaining held x v o
+      gathered-same _ _ _ 6
+      (λ x l.
+      tried-same weigh weigh (order left weigh s q) (order (suc left) weigh s q) remaining held x
       (λ e i m t. refl)
       (λ e hold.
       order-step weigh left (without remaining x) hold (length-set remaining x false ∙ six)

@@ -1,80 +1,116 @@
--- Refusals by their numbers: which test tells, and which pass. Assumes nothing.
-use mathlib.Core.Path.{_≡_, refl}
+-- Verdicts: which test tells, and which pass. Assumes nothing.
+use mathlib.Core.Path.{_≡_, refl, ap, ap₂, _∙_}
 use mathlib.Core.Bool.{Bool, true, false, not, _&&_}
+use mathlib.Core.List.{List}
 use mathlib.Core.Option.{Option, none, some}
-use Prim.Native.Nat.{ℕ, zero, suc, _≤_}
+use Prim.Native.Nat.{ℕ, _+_, _≤_}
+use native.Mathlib.Numerals.{add-one}
+use native.Mathlib.Omega.{arith}
 use lib.Dec.{ltb, leb}
 use borrow.Author.Tests.{leb-true, eq-eqb, ne-eqb}
 use Rattle.laws.proofs.Cases.{and-right}
+use Rattle.laws.proofs.Fold.{turns-done}
 use Rattle.laws.specs.Tests.{if_then_else_, accepted, _when_or_, firstOf, _orElse_}
 use Rattle.laws.specs.Loops.{allTo, sumTo, foldTo}
 use Rattle.bound.specs.declared.Parent.{Parent}
 use Rattle.bound.specs.declared.Parent.the-variants.{Inside}
 use Rattle.bound.specs.declared.Sections.{Sections}
-use Rattle.bound.specs.Table.{sectionAt, directlyIn, countsFit, parentFits, sectionFits, above, childLength, childrenFit, sectionRefusal, tableRefusal, refusal}
-use Rattle.bound.specs.Numbered.{numbered, sectionTests}
+use Rattle.bound.specs.declared.Verdict.{Verdict}
+use Rattle.bound.specs.declared.Verdict.the-variants.{Accepted, Refused}
+use Rattle.bound.specs.Table.{sectionAt, directlyIn, countsFit, parentFits, sectionFits, above, childLength, childrenFit, sectionTests, sectionRefusal, tableRefusal, refusal, verdict}
+use Rattle.bound.specs.Computed.{firstRefused, refusedIf}
 
--- an earlier refusal tells where there is one
-pub or-told : (n : ℕ) (later : Option ℕ) → (n ≡ 0 → ⊥) → numbered n ≡ (numbered n orElse later)
-or-told zero later f = absurd (f refl)
-or-told (suc n) later f = refl
+-- the first of two, and a test alone
+pub verdict-or : (a b : Option ℕ) → firstRefused (verdict a) (verdict b) ≡ verdict (a orElse b)
+verdict-or none b = refl
+verdict-or (some n) b = refl
+
+verdict-if : (n : ℕ) (b : Bool) → refusedIf n b ≡ verdict (firstOf (n when b or accepted))
+unfolding refusedIf firstOf
+verdict-if n true = refl
+verdict-if n false = refl
+
+one-by-one : (n : ℕ) (b : Bool) (ts : List (ℕ × Bool)) → (firstOf (n when b or accepted) orElse firstOf ts) ≡ firstOf (n when b or ts)
+unfolding firstOf
+one-by-one n true ts = refl
+one-by-one n false ts = refl
+
+pub first-told : (earlier later : Verdict) (n : ℕ) → earlier ≡ Refused n → Refused n ≡ firstRefused earlier later
+first-told earlier later n e = rw e
+
+-- a verdict taken apart
+pub verdict-none : (o : Option ℕ) → verdict o ≡ Accepted → o ≡ none
+verdict-none none e = refl
+verdict-none (some n) e = absurd (let z : _≡_ {A = ℕ} 0 1 = cc in omega arith)
+
+pub verdict-some : (o : Option ℕ) (n : ℕ) → verdict o ≡ Refused n → o ≡ some n
+verdict-some none n e = absurd (let z : _≡_ {A = ℕ} 0 1 = cc in omega arith)
+verdict-some (some m) n e = ap some (cc)
 
 module _ (s : Sections) (i : ℕ) where
   -- 41 but for the parent
   abbrev pub numbersFit : Bool
   numbersFit =
-      ltb (sectionAt s i .task) (s .tasks) && leb (sectionAt s i .resource) 15
+      ltb (sectionAt s i .task .0) (s .tasks) && leb (sectionAt s i .resource) 15
       && leb 1 (sectionAt s i .length) && leb (sectionAt s i .length) 1000000
 
-  pub numbers-tell : numbersFit ≡ false → some 41 ≡ firstOf (sectionTests s i)
+  pub numbers-tell : numbersFit ≡ false → Refused 41 ≡ verdict (firstOf (sectionTests s i))
   unfolding sectionFits firstOf
   numbers-tell e = rw e
 
   pub parent-tells
       : (o : Parent) → numbersFit ≡ true → sectionAt s i .parent ≡ o
-      → firstOf (41 when not (parentFits s i o) or 42 when not (above s (sectionAt s i .resource) o) or accepted) ≡ firstOf (sectionTests s i)
+      → verdict (firstOf (41 when not (parentFits s i o) or 42 when not (above s (sectionAt s i .resource) o) or accepted)) ≡ verdict (firstOf (sectionTests s i))
   unfolding sectionFits
   parent-tells o e d = rw (e, d)
 
+-- 42, once the parent is an earlier section of the same task
+pub above-tells
+    : (earlier same below : Bool) → earlier ≡ true → same ≡ true
+    → refusedIf 42 below ≡ verdict (firstOf (41 when not (earlier && same) or 42 when below or accepted))
+unfolding firstOf
+above-tells earlier same below e d = rw (e, d) (verdict-if 42 below)
+
+-- a turn of the tests of all sections
+pub refusal-turn
+    : (s : Sections) (i : ℕ) (earlier new r : Verdict) → earlier ≡ verdict (foldTo i (sectionRefusal s) none) → new ≡ verdict (firstOf (sectionTests s i))
+    → r ≡ firstRefused earlier new → r ≡ verdict (foldTo (i + 1) (sectionRefusal s) none)
+unfolding foldTo sectionRefusal
+refusal-turn s i earlier new r e d h = rw add-one (h ∙ ap₂ firstRefused e d ∙ verdict-or (foldTo i (sectionRefusal s) none) _)
+
+pub refusals-done
+    : (s : Sections) (i n : ℕ) (v : Verdict) → i ≤ n → n ≤ i
+    → v ≡ verdict (foldTo i (sectionRefusal s) none) → v ≡ verdict (foldTo n (sectionRefusal s) none)
+refusals-done s = turns-done (λ j. verdict (foldTo j (sectionRefusal s) none))
+
 module _ (s : Sections) where
-  pub counts-tell : countsFit s ≡ false → some 40 ≡ tableRefusal s
+  pub counts-tell : countsFit s ≡ false → Refused 40 ≡ verdict (tableRefusal s)
   unfolding tableRefusal firstOf
   counts-tell e = rw e
 
   pub counts-most : countsFit s ≡ true → s .count ≤ 12
   counts-most e = leb-true _ _ (and-right (leb 1 (s .tasks) && leb (s .tasks) 6) _ e)
 
-  module _ (n : ℕ) (fit : countsFit s ≡ true) (found : numbered n ≡ foldTo (s .count) (sectionRefusal s) none) where
-    pub sections-tell : (n ≡ 0 → ⊥) → numbered n ≡ tableRefusal s
-    unfolding tableRefusal firstOf
-    sections-tell f = rw (fit, ← found) (or-told n _ f)
+  -- 41 to 43, where the counts fit
+  pub sections-tell
+      : (sections children : Verdict) (all : Bool) → countsFit s ≡ true → sections ≡ verdict (foldTo (s .count) (sectionRefusal s) none)
+      → all ≡ allTo (s .count) (childrenFit s) → children ≡ refusedIf 43 (not all) → firstRefused sections children ≡ verdict (tableRefusal s)
+  unfolding tableRefusal firstOf
+  sections-tell sections children all fit found each late =
+      ap₂ firstRefused found (late ∙ verdict-if 43 (not all) ∙ ap (λ b. verdict (firstOf (43 when not b or accepted))) each)
+      ∙ verdict-or (foldTo (s .count) (sectionRefusal s) none) (firstOf (43 when not (allTo (s .count) (childrenFit s)) or accepted)) ∙ rw fit
 
-    module _ (z : n ≡ 0) (all : Bool) (all-is : all ≡ allTo (s .count) (childrenFit s)) where
-      pub children-tell : all ≡ false → some 43 ≡ tableRefusal s
-      unfolding tableRefusal firstOf
-      children-tell e = rw (fit, ← found, z, ← all-is, e)
-
-      pub table-passes : all ≡ true → none ≡ tableRefusal s
-      unfolding tableRefusal firstOf
-      table-passes e = rw (fit, ← found, z, ← all-is, e)
-
-module _ (s : Sections) (t allowance n : ℕ) (found : numbered n ≡ tableRefusal s) where
-  pub table-tells : (n ≡ 0 → ⊥) → numbered n ≡ refusal s t allowance
+  -- 40 to 45
+  pub question-tells
+      : (t allowance : ℕ) (table task most rest : Verdict) → table ≡ verdict (tableRefusal s) → task ≡ refusedIf 44 (not (ltb t (s .tasks)))
+      → most ≡ refusedIf 45 (not (leb 1 allowance && leb allowance 1000000)) → rest ≡ firstRefused task most
+      → firstRefused table rest ≡ verdict (refusal s t allowance)
   unfolding refusal
-  table-tells f = rw (← found) (or-told n _ f)
-
-  module _ (z : n ≡ 0) where
-    pub task-tells : ltb t (s .tasks) ≡ false → some 44 ≡ refusal s t allowance
-    unfolding refusal firstOf
-    task-tells e = rw (← found, z, e)
-
-    pub allowance-tells : ltb t (s .tasks) ≡ true → (leb 1 allowance && leb allowance 1000000) ≡ false → some 45 ≡ refusal s t allowance
-    unfolding refusal firstOf
-    allowance-tells e d = rw (← found, z, e, d)
-
-    pub all-passes : ltb t (s .tasks) ≡ true → (leb 1 allowance && leb allowance 1000000) ≡ true → none ≡ refusal s t allowance
-    unfolding refusal firstOf
-    all-passes e d = rw (← found, z, e, d)
+  question-tells t allowance table task most rest found e d f =
+      ap₂ firstRefused found
+      (f ∙ ap₂ firstRefused (e ∙ verdict-if 44 _) (d ∙ verdict-if 45 _) ∙ verdict-or (firstOf (44 when not (ltb t (s .tasks)) or accepted)) _
+      ∙ ap verdict (one-by-one 44 (not (ltb t (s .tasks))) (45 when not (leb 1 allowance && leb allowance 1000000) or accepted)))
+      ∙ verdict-or (tableRefusal s) _
 
 -- a length that counts for section i, or does not
 pub child-counts : (o : Parent) (p i length : ℕ) → o ≡ Inside p → p ≡ i → length ≡ (if directlyIn o (Inside i) then length else 0)

@@ -10,7 +10,7 @@ use lib.Seq.{getD-set-same, getD-set-other}
 use borrow.Author.Tests.{eqb-true, eqb-false}
 use Rattle.laws.proofs.Cases.{split}
 use Rattle.laws.proofs.Fold.{last-or-below}
-use Rattle.bound.specs.Drawn.{Rows, Spans, taskIn, resourceIn, placeIn, onSpan, inSpan, fromIn, endIn, widened, Covers, Spanned, Ranged}
+use Rattle.bound.specs.Computed.{Rows, Spans, taskIn, resourceIn, parentIn, onSpan, inSpan, fromIn, endIn, widened, Covers, Spanned, Ranged}
 
 -- no span goes past n
 record Within (spans : Spans) (n : ℕ) : Type 0 where
@@ -67,7 +67,7 @@ module _ (spans : Spans) (n i k : ℕ) (b : Within spans n) (l : k < 109) (m : n
 pub record Begun (rows : Rows) (spans : Spans) (i : ℕ) : Type 0 where
   within : Within spans i
   on : (p : ℕ) → p < i → Covers spans (onSpan (taskIn rows p) (resourceIn rows p)) p
-  inside : (p : ℕ) → p < i → Covers spans (inSpan (placeIn rows p)) p
+  inside : (p : ℕ) → p < i → Covers spans (inSpan (parentIn rows p)) p
 
 empty-at : (n k : ℕ) → (fromIn (replicate n (replicate 2 0)) k ≡ 0) × (endIn (replicate n (replicate 2 0)) k ≡ 0)
 empty-at zero k = (refl, refl)
@@ -83,12 +83,12 @@ spans-none rows =
     }
 
 spans-more : (rows : Rows) (spans : Spans) (count i : ℕ) → Ranged rows count → i < count → Begun rows spans i
-    → Begun rows (widen (widen spans (onSpan (taskIn rows i) (resourceIn rows i)) i) (inSpan (placeIn rows i)) i) (i + 1)
+    → Begun rows (widen (widen spans (onSpan (taskIn rows i) (resourceIn rows i)) i) (inSpan (parentIn rows i)) i) (i + 1)
 spans-more rows spans count i ranged l b =
     let k = onSpan (taskIn rows i) (resourceIn rows i) in
-    let j = inSpan (placeIn rows i) in
+    let j = inSpan (parentIn rows i) in
     let low : k < 109 = omega (arith, ranged .task-most i l, ranged .resource-most i l) in
-    let high : j < 109 = omega (arith, ranged .place-most i l, ranged .count-most) in
+    let high : j < 109 = omega (arith, ranged .parent-most i l, ranged .count-most) in
     let once = widen-within spans i i k (b .within) low (omega arith) in
     let first = covers-still spans i i k (b .within) low (omega arith) in
     let second = covers-still (widen spans k i) (i + 1) i j once high (omega arith) in
@@ -110,7 +110,7 @@ spans-more rows spans count i ranged l b =
 pub spans-turn
     : (rows : Rows) (spans : Spans) (count i : ℕ) → Ranged rows count → i < count → Begun rows spans i
     → (k j : ℕ) (w v : List ℕ) → k ≡ onSpan (taskIn rows i) (resourceIn rows i) → w ≡ widened (getD spans k []) i
-    → j ≡ inSpan (placeIn rows i) → v ≡ widened (getD (set spans k w) j []) i → Begun rows (set (set spans k w) j v) (i + 1)
+    → j ≡ inSpan (parentIn rows i) → v ≡ widened (getD (set spans k w) j []) i → Begun rows (set (set spans k w) j v) (i + 1)
 spans-turn rows spans count i ranged l b k j w v ek ew ej ev = rw (ev, ew, ek, ej) (spans-more rows spans count i ranged l b)
 
 pub spans-done : (rows : Rows) (spans : Spans) (i count : ℕ) → i ≤ count → count ≤ i → Begun rows spans i → Spanned rows spans count

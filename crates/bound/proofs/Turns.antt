@@ -1,123 +1,162 @@
--- A turn of each loop that the code has: of one that tests all, and of one that spends an allowance. Assumes nothing.
-use mathlib.Core.Path.{_≡_, refl, sym, ap, _∙_}
-use mathlib.Core.Bool.{Bool, _&&_}
-use mathlib.Core.Option.{Option, none}
+-- What an allowance makes of one calculation, of two one after the other, and of the turns of a loop. Assumes nothing.
+use mathlib.Core.Path.{_≡_, refl, sym, ap, ap₂, _∙_}
+use mathlib.Core.Option.{none}
+use mathlib.Core.Logic.{⊎-elim}
 use Prim.Native.Nat.{ℕ, zero, suc, _+_, _-_, _<_, _≤_}
+use native.Mathlib.Nat.{eq-or-lt-of-le}
 use native.Mathlib.Numerals.{add-one}
 use native.Mathlib.Omega.{arith}
-use lib.Dec.{leb}
-use borrow.Author.Tests.{le-leb, lt-leb, leb-true, leb-false}
-use Rattle.laws.specs.Loops.{allTo}
+use lib.Dec.{leb, ltb}
+use borrow.Author.Tests.{le-leb, lt-leb, leb-true, leb-false, lt-ltb, le-ltb}
+use Rattle.laws.specs.Tests.{if_then_else_}
 use Rattle.laws.proofs.Cases.{split}
-use Rattle.laws.proofs.Fold.{turns-done}
 use Rattle.bound.specs.declared.Tally.the-variants.{Of, Exceeded}
-use Rattle.bound.specs.Interference.{Weighed, weighed, Turn, run}
-use Rattle.bound.specs.Spending.{placeOf, sectionOf, spend}
-
-pub all-turn : (p : ℕ → Bool) (i : ℕ) (b c : Bool) → c ≡ p i → b ≡ allTo i p → (b && c) ≡ allTo (i + 1) p
-unfolding allTo
-all-turn p i b c e h = rw (add-one, e) (ap (λ x. x && p i) h)
-
-pub all-turns : (p : ℕ → Bool) (i n : ℕ) (b : Bool) → i ≤ n → n ≤ i → b ≡ allTo i p → b ≡ allTo n p
-all-turns p = turns-done (λ j. allTo j p)
-
-pub place-section : (n : ℕ) → placeOf (sectionOf n) ≡ n
-place-section zero = refl
-place-section (suc i) = refl
+use Rattle.bound.specs.Interference.{Weighed, weighed, nothing, both, larger, gathered, firstGreatest}
+use Rattle.bound.specs.Computed.{ordinalOf, spend}
 
 -- the allowance lasts
 pub record Lasted (w : Weighed) (a v u l : ℕ) : Type 0 where
   pub enough : w .weighings ≤ a
   pub value-is : v ≡ w .value
-  pub place-is : u ≡ placeOf (w .giver)
+  pub giver-is : u ≡ ordinalOf (w .giver)
   pub left-is : l ≡ a - w .weighings
 
 module _ (w : Weighed) (a : ℕ) where
-  pub spend-in : w .weighings ≤ a → spend w a ≡ Of (w .value) (placeOf (w .giver)) (a - w .weighings)
+  spend-in : w .weighings ≤ a → spend w a ≡ Of (w .value) (ordinalOf (w .giver)) (a - w .weighings)
   unfolding spend
   spend-in h = rw (le-leb _ _ h)
 
-  pub spend-out : a < w .weighings → spend w a ≡ Exceeded
+  spend-out : a < w .weighings → spend w a ≡ Exceeded
   unfolding spend
   spend-out h = rw (lt-leb _ _ h)
 
-  -- an answer taken apart
+  -- an answer taken apart, and put together
   pub lasted : (v u l : ℕ) → Of v u l ≡ spend w a → Lasted w a v u l
   lasted v u l e =
       split (leb (w .weighings) a)
       (λ y.
       let n = leb-true (w .weighings) a y in
-      let q : Of v u l ≡ Of (w .value) (placeOf (w .giver)) (a - w .weighings) = e ∙ spend-in n in
-      record { enough = n; value-is = cc; place-is = cc; left-is = cc })
+      let q : Of v u l ≡ Of (w .value) (ordinalOf (w .giver)) (a - w .weighings) = e ∙ spend-in n in
+      record { enough = n; value-is = cc; giver-is = cc; left-is = cc })
       (λ f.
       let q : Of v u l ≡ Exceeded = e ∙ spend-out (leb-false (w .weighings) a f) in
       absurd (let z : _≡_ {A = ℕ} 0 1 = cc in omega arith))
+
+  pub lasts : (v u l : ℕ) → Lasted w a v u l → Of v u l ≡ spend w a
+  lasts v u l h = rw (h .value-is, h .giver-is, h .left-is) (sym (spend-in (h .enough)))
 
   pub exceeded : Exceeded ≡ spend w a → a < w .weighings
   exceeded e =
       split (leb (w .weighings) a)
       (λ y.
-      let q : Exceeded ≡ Of (w .value) (placeOf (w .giver)) (a - w .weighings) = e ∙ spend-in (leb-true (w .weighings) a y) in
+      let q : Exceeded ≡ Of (w .value) (ordinalOf (w .giver)) (a - w .weighings) = e ∙ spend-in (leb-true (w .weighings) a y) in
       absurd (let z : _≡_ {A = ℕ} 0 1 = cc in omega arith))
       (leb-false (w .weighings) a)
 
--- k weighings that the allowance has, and then the rest on what is left of it
-spend-later : (k a v : ℕ) (g : Option ℕ) (n : ℕ) → k ≤ a → spend (weighed v g (k + n)) a ≡ spend (weighed v g n) (a - k)
-spend-later k a v g n h =
-    split (leb n (a - k))
-    (λ y.
-    let l = leb-true n (a - k) y in
-    spend-in (weighed v g (k + n)) a (omega arith) ∙ ap (Of v (placeOf g)) (omega arith) ∙ sym (spend-in (weighed v g n) (a - k) l))
-    (λ f.
-    let l = leb-false n (a - k) f in
-    spend-out (weighed v g (k + n)) a (omega arith) ∙ sym (spend-out (weighed v g n) (a - k) l))
+  pub exceeds : a < w .weighings → Exceeded ≡ spend w a
+  exceeds h = sym (spend-out h)
 
--- a loop over n turns, at turn i with the value v, the giver's place u and the allowance a
--- nothing more is weighed
-pub spend-none : (v u a : ℕ) → spend (weighed v (sectionOf u) 0) a ≡ Of v u a
-spend-none v u a = spend-in (weighed v (sectionOf u) 0) a (omega arith) ∙ ap (λ p. Of v p (a - 0)) (place-section u) ∙ ap (Of v u) (omega arith)
+-- equal calculations leave the same
+pub spend-same : (w o : Weighed) (a : ℕ) → w ≡ o → spend w a ≡ spend o a
+spend-same w o a = ap (λ x. spend x a)
 
-module _ (f : Turn) (n i v u a : ℕ) where
-  pub turns-end : i ≤ n → n ≤ i → spend (run f (n - i) i v (sectionOf u)) a ≡ Of v u a
-  unfolding run
-  turns-end l m = let e : n - i ≡ 0 = omega arith in rw e (spend-none v u a)
+pub nothing-of : (a : ℕ) → Of 0 0 a ≡ spend nothing a
+nothing-of a = lasts nothing a 0 0 a (record { enough = omega arith; value-is = refl; giver-is = refl; left-is = omega arith })
 
-  opened
-      : i < n → let now = f i v (sectionOf u) in
-      let later = run f (n - (i + 1)) (i + 1) (now .value) (now .giver) in
-      run f (n - i) i v (sectionOf u) ≡ weighed (later .value) (later .giver) (now .weighings + later .weighings)
-  unfolding run
-  opened l = let e : n - i ≡ suc (n - (i + 1)) = omega arith in rw (e, add-one)
+-- one weighing, which the allowance has or has not
+pub one-of : (v a : ℕ) → (a ≡ 0 → ⊥) → Of v 0 (a - 1) ≡ spend (weighed v none 1) a
+one-of v a n = lasts _ a v 0 (a - 1) (record { enough = omega (arith, n); value-is = refl; giver-is = refl; left-is = refl })
 
-  -- a turn weighs as w does, which lasts or does not
-  pub turn-on
-      : (w : Weighed) (x p l v′ u′ : ℕ) → i < n → Of x p l ≡ spend w a → f i v (sectionOf u) ≡ weighed v′ (sectionOf u′) (w .weighings)
-      → spend (run f (n - (i + 1)) (i + 1) v′ (sectionOf u′)) l ≡ spend (run f (n - i) i v (sectionOf u)) a
-  turn-on w x p l v′ u′ lt e is =
-      let h = lasted w a x p l e in
-      let later = run f (n - (i + 1)) (i + 1) v′ (sectionOf u′) in
-      ap (spend later) (h .left-is)
-      ∙ sym (spend-later (w .weighings) a (later .value) (later .giver) (later .weighings) (h .enough))
-      ∙ sym (ap (λ k. spend k a) (opened lt ∙ rw is))
-
-  pub turn-out
-      : (w : Weighed) → i < n → Exceeded ≡ spend w a → f i v (sectionOf u) .weighings ≡ w .weighings
-      → Exceeded ≡ spend (run f (n - i) i v (sectionOf u)) a
-  turn-out w lt e is = sym (ap (λ k. spend k a) (opened lt) ∙ spend-out _ a (omega (arith, exceeded w a e)))
-
--- two calculations one after the other, on one allowance
-module _ (a : ℕ) (first second : Weighed) where
-  abbrev pub both : Weighed
-  both = weighed (first .value + second .value) none (first .weighings + second .weighings)
-
-  pub both-of : (x p l y q m : ℕ) → Of x p l ≡ spend first a → Of y q m ≡ spend second l → Of (x + y) 0 m ≡ spend both a
-  both-of x p l y q m e d =
+-- two calculations one after the other on one allowance, of which w is made: the weighings add up
+module _ (a : ℕ) (first second w : Weighed) (sum : w .weighings ≡ first .weighings + second .weighings) where
+  pub then-of
+      : (x p l y q m v u : ℕ) → Of x p l ≡ spend first a → Of y q m ≡ spend second l → v ≡ w .value → u ≡ ordinalOf (w .giver) → Of v u m ≡ spend w a
+  then-of x p l y q m v u e d ev eu =
       let h = lasted first a x p l e in
       let k = lasted second l y q m d in
-      sym (spend-in both a (omega arith) ∙ ap (λ v. Of v 0 (a - (first .weighings + second .weighings))) (omega arith) ∙ ap (Of (x + y) 0) (omega arith))
+      lasts w a v u m (record { enough = omega arith; value-is = ev; giver-is = eu; left-is = omega arith })
 
-  pub both-out : Exceeded ≡ spend first a → Exceeded ≡ spend both a
-  both-out e = sym (spend-out both a (omega (arith, exceeded first a e)))
+  pub then-later : (x p l : ℕ) → Of x p l ≡ spend first a → Exceeded ≡ spend second l → Exceeded ≡ spend w a
+  then-later x p l e d = let h = lasted first a x p l e in exceeds w a (omega (arith, exceeded second l d))
 
-  pub both-later : (x p l : ℕ) → Of x p l ≡ spend first a → Exceeded ≡ spend second l → Exceeded ≡ spend both a
-  both-later x p l e d = let h = lasted first a x p l e in sym (spend-out both a (omega (arith, exceeded second l d)))
+-- the first of them exceeds the allowance
+pub first-out : (a : ℕ) (first w : Weighed) (more : ℕ) → w .weighings ≡ first .weighings + more → Exceeded ≡ spend first a → Exceeded ≡ spend w a
+first-out a first w more sum e = exceeds w a (omega (arith, exceeded first a e))
+
+-- w is both of them
+module _ (a : ℕ) (first second w : Weighed) (is : w ≡ both first second) where
+  sum : w .weighings ≡ first .weighings + second .weighings
+  sum = ap (λ o. o .weighings) is
+
+  pub both-of : (x p l y q m : ℕ) → Of x p l ≡ spend first a → Of y q m ≡ spend second l → Of (x + y) 0 m ≡ spend w a
+  both-of x p l y q m e d =
+      then-of a first second w sum x p l y q m (x + y) 0 e d
+      (ap₂ (λ n k. n + k) (lasted first a x p l e .value-is) (lasted second l y q m d .value-is) ∙ ap (λ o. o .value) (sym is))
+      (ap (λ o. ordinalOf (o .giver)) (sym is))
+
+  pub both-later : (x p l : ℕ) → Of x p l ≡ spend first a → Exceeded ≡ spend second l → Exceeded ≡ spend w a
+  both-later = then-later a first second w sum
+
+-- a loop whose turns spend one allowance
+pub turns-none : (join : ℕ → Weighed → Weighed → Weighed) (give : ℕ → Weighed) (a : ℕ) → Of 0 0 a ≡ spend (gathered join give 0) a
+unfolding gathered
+turns-none join give = nothing-of
+
+module _ (join : ℕ → Weighed → Weighed → Weighed) (sums : (i : ℕ) (x y : Weighed) → join i x y .weighings ≡ x .weighings + y .weighings) (give : ℕ → Weighed) where
+  grows : (i n : ℕ) → i ≤ n → gathered join give i .weighings ≤ gathered join give n .weighings
+  unfolding gathered
+  grows i zero l = let e : i ≡ 0 = omega arith in rw e (omega arith)
+  grows i (suc n) l =
+      ⊎-elim
+      (λ (e : i ≡ suc n). rw e (omega arith))
+      (λ (m : i < suc n). omega (arith, grows i n (omega arith), sums n (gathered join give n) (give n)))
+      (eq-or-lt-of-le l)
+
+  -- turn i exceeds the allowance, and so do all
+  pub turn-out
+      : (a i n v u l : ℕ) → i < n → Of v u l ≡ spend (gathered join give i) a → Exceeded ≡ spend (give i) l → Exceeded ≡ spend (gathered join give n) a
+  unfolding gathered
+  turn-out a i n v u l m e d =
+      let now = exceeded _ a (then-later a _ _ (gathered join give (suc i)) (sums i (gathered join give i) (give i)) v u l e d) in
+      exceeds _ a (omega (arith, now, grows (suc i) n m))
+
+  -- turn i lasts
+  turn-of
+      : (a i v u l y p k v′ u′ : ℕ) → Of v u l ≡ spend (gathered join give i) a → Of y p k ≡ spend (give i) l
+      → v′ ≡ join i (gathered join give i) (give i) .value → u′ ≡ ordinalOf (join i (gathered join give i) (give i) .giver)
+      → Of v′ u′ k ≡ spend (gathered join give (i + 1)) a
+  unfolding gathered
+  turn-of a i v u l y p k v′ u′ e d ev eu = rw add-one (then-of a _ _ _ (sums i (gathered join give i) (give i)) v u l y p k v′ u′ e d ev eu)
+
+module _ (give : ℕ → Weighed) (a i v u l y p k : ℕ) (made : Of y p k ≡ spend (give i) l) where
+  -- "sum over the sections c"
+  pub sum-goes : Of v u l ≡ spend (gathered (λ c. both) give i) a → Of (v + y) 0 k ≡ spend (gathered (λ c. both) give (i + 1)) a
+  sum-goes e =
+      turn-of (λ c. both) (λ c x z. refl) give a i v u l y p k (v + y) 0 e made
+      (ap₂ (λ n m. n + m) (lasted _ a v u l e .value-is) (lasted _ l y p k made .value-is)) refl
+
+  -- "in the order giving the largest sum"
+  pub order-goes
+      : (m : ℕ) → m ≡ (if ltb v y then y else v)
+      → Of v u l ≡ spend (gathered (λ x. larger) give i) a → Of m 0 k ≡ spend (gathered (λ x. larger) give (i + 1)) a
+  order-goes m is e =
+      turn-of (λ x. larger) (λ x z w. refl) give a i v u l y p k m 0 e made
+      (is ∙ ap₂ (λ n w. if ltb n w then w else n) (lasted _ a v u l e .value-is) (lasted _ l y p k made .value-is)) refl
+
+  -- "The first greatest counts": it is greater, or it is not
+  module _ (e : Of v u l ≡ spend (gathered firstGreatest give i) a) (v′ u′ : ℕ) where
+    value-was : v ≡ gathered firstGreatest give i .value
+    value-was = lasted _ a v u l e .value-is
+
+    value-now : y ≡ give i .value
+    value-now = lasted _ l y p k made .value-is
+
+    pub best-greater : v < y → v′ ≡ y → u′ ≡ i + 1 → Of v′ u′ k ≡ spend (gathered firstGreatest give (i + 1)) a
+    best-greater h ev eu =
+        let better = lt-ltb (gathered firstGreatest give i .value) (give i .value) (omega (arith, value-was, value-now)) in
+        turn-of firstGreatest (λ j x z. refl) give a i v u l y p k v′ u′ e made (rw better (ev ∙ value-now)) (rw better (eu ∙ add-one i))
+
+    pub best-stays : y ≤ v → v′ ≡ v → u′ ≡ u → Of v′ u′ k ≡ spend (gathered firstGreatest give (i + 1)) a
+    best-stays h ev eu =
+        let worse = le-ltb (gathered firstGreatest give i .value) (give i .value) (omega (arith, value-was, value-now)) in
+        turn-of firstGreatest (λ j x z. refl) give a i v u l y p k v′ u′ e made (rw worse (ev ∙ value-was)) (rw worse (eu ∙ lasted _ a v u l e .giver-is))

@@ -10,8 +10,8 @@ use Rattle.laws.specs.Loops.{foldTo}
 use Rattle.bound.specs.declared.Parent.{Parent}
 use Rattle.bound.specs.declared.Parent.the-variants.{Outermost, Inside}
 use Rattle.bound.specs.declared.Sections.{Sections}
-use Rattle.bound.specs.Sets.{Tasks, Resources, noTask, noResource, has, with, without, joined, meets}
-use Rattle.bound.specs.Table.{sectionAt, directlyIn, outer}
+use Rattle.bound.specs.Sets.{taskNumbers, Tasks, Resources, noTask, noResource, has, with, without, joined, meets}
+use Rattle.bound.specs.Table.{sectionNumbers, sectionAt, directlyIn, outer}
 
 -- a value, the section that gave it if one did, and the weighings spent on it
 pub record Weighed : Type 0 where
@@ -25,17 +25,18 @@ weighed value giver weighings = record { value = value; giver = giver; weighings
 abbrev pub nothing : Weighed
 nothing = weighed 0 none 0
 
--- a turn of a loop: its number and the value and giver found so far, to those found now and the turn's own weighings
-abbrev pub Turn : Type 0
-Turn = ℕ → ℕ → Option ℕ → Weighed
+-- two findings one after the other: values and weighings add up
+abbrev pub both : Weighed → Weighed → Weighed
+both found new = weighed (found .value + new .value) none (found .weighings + new .weighings)
 
--- turns i, i + 1 and so on, `left` of them: their weighings are added
-unfoldable pub run : Turn → ℕ → Turn
-run turn zero i value giver = weighed value giver 0
-run turn (suc left) i value giver =
-    let now = turn i value giver in
-    let later = run turn left (suc i) (now .value) (now .giver) in
-    weighed (later .value) (later .giver) (now .weighings + later .weighings)
+-- the larger of two values, with the weighings spent on either
+abbrev pub larger : Weighed → Weighed → Weighed
+larger found new = weighed (if ltb (found .value) (new .value) then new .value else found .value) none (found .weighings + new .weighings)
+
+-- the first n turns of a loop: what turn i gives is joined to what the turns before it gave
+unfoldable pub gathered : (ℕ → Weighed → Weighed → Weighed) → (ℕ → Weighed) → ℕ → Weighed
+gathered join give zero = nothing
+gathered join give (suc n) = join n (gathered join give n) (give n)
 
 -- "For a task, a set of its sections, a set B of tasks and a set R of resources": by B, the task, what its sections stand in, and R
 abbrev pub Calculation : Type 0
@@ -50,30 +51,28 @@ Weighing = Tasks → Resources → ℕ → Weighed
 unfoldable pub weighingIf : Bool → Calculation → Sections → Weighing
 weighingIf true same s b held i = weighed 0 none 1
 weighingIf false same s b held i =
-    let x = sectionAt s i .task in
-    let nested = same (with b x) x (Inside i) (joined held (outer s i)) in
-    weighed (sectionAt s i .length + nested .value) none (1 + nested .weighings)
+    let x = sectionAt s i .task .0 in
+    both (weighed (sectionAt s i .length) none 1) (same (with b x) x (Inside i) (joined held (outer s i)))
 
 abbrev pub weighing : Calculation → Sections → Weighing
 weighing same s b held i = weighingIf (meets (outer s i) held) same s b held i
 
 -- section i is task x's, on resource q
 abbrev pub isOn : Sections → ℕ → ℕ → ℕ → Bool
-isOn s q x i = eqb (sectionAt s i .task) x && eqb (sectionAt s i .resource) q
+isOn s q x i = eqb (sectionAt s i .task .0) x && eqb (sectionAt s i .resource) q
+
+-- "Each task in turn weighs its sections on that resource, by number": section i where it is one of them
+unfoldable pub weighedOn : (ℕ → Weighed) → Sections → ℕ → ℕ → ℕ → Weighed
+weighedOn weigh s q x i = if isOn s q x i then weigh i else nothing
 
 -- "The first greatest counts": section i against what was found before it
-abbrev pub firstGreatest : ℕ → ℕ → Option ℕ → Weighed → Weighed
-firstGreatest i value giver new =
-    if ltb value (new .value) then weighed (new .value) (some i) (new .weighings) else weighed value giver (new .weighings)
-
--- "Each task in turn weighs its sections on that resource, by number"
-unfoldable pub bestTurn : (ℕ → Weighed) → Sections → ℕ → ℕ → Turn
-bestTurn weigh s q x i value giver =
-    let better = firstGreatest i value giver (weigh i) in
-    if isOn s q x i then better else weighed value giver 0
+abbrev pub firstGreatest : ℕ → Weighed → Weighed → Weighed
+firstGreatest i found new =
+    let better = ltb (found .value) (new .value) in
+    weighed (if better then new .value else found .value) (if better then some i else found .giver) (found .weighings + new .weighings)
 
 unfoldable pub best : (ℕ → Weighed) → Sections → ℕ → ℕ → Weighed
-best weigh s q x = run (bestTurn weigh s q x) (s .count) 0 0 none
+best weigh s q x = gathered firstGreatest (weighedOn weigh s q x) (s .count)
 
 -- "and its outer resources join Held, which stays if all give nothing"
 abbrev pub heldAfter : Sections → Resources → Option ℕ → Resources
@@ -81,23 +80,20 @@ heldAfter s held none = held
 heldAfter s held (some i) = joined held (outer s i)
 
 -- "trying each remaining task next, then each remaining after it": task x next; "B doesn't grow along an order (line 23)"
-unfoldable pub orderTurn : Weighing → (Tasks → Tasks → Resources → Weighed) → Sections → ℕ → Tasks → Tasks → Resources → Turn
-orderTurn weigh after s q b remaining held x value giver =
+unfoldable pub triedNext : Weighing → (Tasks → Tasks → Resources → Weighed) → Sections → ℕ → Tasks → Tasks → Resources → ℕ → Weighed
+triedNext weigh after s q b remaining held x =
     let next = best (weigh b held) s q x in
-    let rest = after b (without remaining x) (heldAfter s held (next .giver)) in
-    let sum = next .value + rest .value in
-    let tried = weighed (if ltb value sum then sum else value) none (next .weighings + rest .weighings) in
-    if has remaining x then tried else weighed value none 0
+    if has remaining x then both next (after b (without remaining x) (heldAfter s held (next .giver))) else nothing
 
 -- "in the order giving the largest sum", `left` being how many tasks remain
 unfoldable pub order : ℕ → Weighing → Sections → ℕ → Tasks → Tasks → Resources → Weighed
 order zero weigh s q b remaining held = nothing
-order (suc left) weigh s q b remaining held = run (orderTurn weigh (order left weigh s q) s q b remaining held) 6 0 0 none
+order (suc left) weigh s q b remaining held = gathered (λ x. larger) (triedNext weigh (order left weigh s q) s q b remaining held) taskNumbers
 
 -- "the tasks outside B that have a section on c's resource": of section i
 unfoldable pub blocker : Sections → ℕ → Tasks → ℕ → Tasks → Tasks
 blocker s q b i found =
-    if eqb (sectionAt s i .resource) q && not (has b (sectionAt s i .task)) then with found (sectionAt s i .task) else found
+    if eqb (sectionAt s i .resource) q && not (has b (sectionAt s i .task .0)) then with found (sectionAt s i .task .0) else found
 
 unfoldable pub blockers : Sections → ℕ → Tasks → Tasks
 blockers s q b = foldTo (s .count) (blocker s q b) noTask
@@ -108,26 +104,24 @@ ordering left same s b q entry = order left (weighing same s) s q b (blockers s 
 
 -- section c is task t's, directly in p
 abbrev pub isIn : Sections → ℕ → Parent → ℕ → Bool
-isIn s t p c = eqb (sectionAt s c .task) t && directlyIn (sectionAt s c .parent) p
+isIn s t p c = eqb (sectionAt s c .task .0) t && directlyIn (sectionAt s c .parent) p
 
--- "sum over the sections c: the ordering value, plus the same calculation on c's direct children, both with R and c's resource"
-unfoldable pub sumTurn : (ℕ → Resources → Weighed) → (Parent → Resources → Weighed) → Sections → ℕ → Parent → Resources → Turn
-sumTurn ordered same s t p r c value giver =
+-- "the ordering value, plus the same calculation on c's direct children, both with R and c's resource": of section c where it stands in p
+unfoldable pub sumOver : (ℕ → Resources → Weighed) → (Parent → Resources → Weighed) → Sections → ℕ → Parent → Resources → ℕ → Weighed
+sumOver ordered same s t p r c =
     let wider = with r (sectionAt s c .resource) in
-    let own = ordered (sectionAt s c .resource) wider in
-    let nested = same (Inside c) wider in
-    let added = weighed (value + own .value + nested .value) none (own .weighings + nested .weighings) in
-    if isIn s t p c then added else weighed value none 0
+    if isIn s t p c then both (ordered (sectionAt s c .resource) wider) (same (Inside c) wider) else nothing
 
+-- "sum over the sections c"
 unfoldable pub sums : ℕ → (ℕ → Resources → Weighed) → Sections → ℕ → Parent → Resources → Weighed
 sums zero ordered s t p r = nothing
-sums (suc depth) ordered s t p r = run (sumTurn ordered (sums depth ordered s t) s t p r) (s .count) 0 0 none
+sums (suc depth) ordered s t p r = gathered (λ c. both) (sumOver ordered (sums depth ordered s t) s t p r) (s .count)
 
--- "The two calculations call one another until tasks and depth run out", `left` being how many tasks are outside B
-unfoldable pub level : ℕ → Sections → Calculation
-level zero s b t p r = nothing
-level (suc left) s b t p r = sums 12 (ordering (suc left) (level left s) s b) s t p r
+-- "The two calculations call one another until tasks and depth run out": `left` tasks are outside B, sections nest to `depth`
+unfoldable pub level : ℕ → ℕ → Sections → Calculation
+level zero depth s b t p r = nothing
+level (suc left) depth s b t p r = sums depth (ordering (suc left) (level left sectionNumbers s) s b) s t p r
 
 -- "Start: outermost sections, B the task itself, R empty"
 unfoldable pub bound : Sections → ℕ → Weighed
-bound s t = level (s .tasks - 1) s (with noTask t) t Outermost noResource
+bound s t = level (s .tasks - 1) sectionNumbers s (with noTask t) t Outermost noResource

@@ -2,6 +2,4 @@ pub mod Sets
 pub mod Table
 pub mod Interference
 pub mod Answer
-pub mod Spending
-pub mod Drawn
-pub mod Numbered
+pub mod Computed

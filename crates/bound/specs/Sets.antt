@@ -1,24 +1,30 @@
 -- Sets of task numbers and of resource numbers, each a list with a test for every number. Assumes nothing.
-use Prim.Native.Nat.{ℕ, _/_, _%_, _^_}
+use Prim.Native.Nat.{ℕ}
 use mathlib.Core.Bool.{Bool, true, false, not, _&&_, _||_}
 use mathlib.Core.List.{List}
-use lib.Dec.{eqb}
 use lib.ListN.{getD, set, replicate}
 use Rattle.laws.specs.Loops.{allTo, setTo}
 
--- a set of tasks, 6 tests
+-- how many tasks and resources there may be
+abbrev pub taskNumbers : ℕ
+taskNumbers = 6
+
+abbrev pub resourceNumbers : ℕ
+resourceNumbers = 16
+
+-- a set of tasks, a test for each number
 abbrev pub Tasks : Type 0
 Tasks = List Bool
 
--- a set of resources, 16 tests
+-- a set of resources, likewise
 abbrev pub Resources : Type 0
 Resources = List Bool
 
 abbrev pub noTask : Tasks
-noTask = replicate 6 false
+noTask = replicate taskNumbers false
 
 abbrev pub noResource : Resources
-noResource = replicate 16 false
+noResource = replicate resourceNumbers false
 
 abbrev pub has : List Bool → ℕ → Bool
 has xs n = getD xs n false
@@ -33,24 +39,10 @@ unfoldable pub inEither : Resources → Resources → ℕ → Bool
 inEither xs ys r = has xs r || has ys r
 
 unfoldable pub joined : Resources → Resources → Resources
-joined xs ys = setTo 16 (inEither xs ys) xs
+joined xs ys = setTo resourceNumbers (inEither xs ys) xs
 
 unfoldable pub notInBoth : Resources → Resources → ℕ → Bool
 notInBoth xs ys r = not (has xs r && has ys r)
 
 unfoldable pub meets : Resources → Resources → Bool
-meets xs ys = not (allTo 16 (notInBoth xs ys))
-
--- a set of resources as the code holds it: bit r of a number says whether resource r is in it
-unfoldable pub inMask : ℕ → ℕ → Bool
-inMask m r = eqb (m / 2 ^ r % 2) 1
-
-unfoldable pub resourcesOf : ℕ → Resources
-resourcesOf m = setTo 16 (inMask m) noResource
-
--- the sets of twelve such numbers
-unfoldable pub setAt : List ℕ → ℕ → Resources
-setAt ms i = resourcesOf (getD ms i 0)
-
-unfoldable pub setsOf : List ℕ → List Resources
-setsOf ms = setTo 12 (setAt ms) (replicate 12 noResource)
+meets xs ys = not (allTo resourceNumbers (notInBoth xs ys))

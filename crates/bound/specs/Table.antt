@@ -2,7 +2,8 @@
 -- Entries past `count` are not read. Assumes nothing.
 use Prim.Native.Nat.{ℕ, zero, suc}
 use mathlib.Core.Bool.{Bool, true, false, not, _&&_}
-use mathlib.Core.Option.{Option, none}
+use mathlib.Core.List.{List}
+use mathlib.Core.Option.{Option, none, some}
 use lib.Dec.{ltb, leb, eqb}
 use lib.ListN.{getD}
 use Rattle.laws.specs.Tests.{if_then_else_, accepted, _when_or_, firstOf, _orElse_}
@@ -11,10 +12,19 @@ use Rattle.bound.specs.declared.Parent.{Parent}
 use Rattle.bound.specs.declared.Parent.the-variants.{Outermost, Inside}
 use Rattle.bound.specs.declared.Section.{Section}
 use Rattle.bound.specs.declared.Sections.{Sections}
-use Rattle.bound.specs.Sets.{Resources, noResource, with}
+use Rattle.bound.specs.declared.Verdict.{Verdict}
+use Rattle.bound.specs.declared.Verdict.the-variants.{Accepted, Refused}
+use Rattle.bound.specs.Sets.{taskNumbers, Resources, noResource, with}
+
+-- how many sections there may be, and how long one
+abbrev pub sectionNumbers : ℕ
+sectionNumbers = 12
+
+abbrev pub million : ℕ
+million = 1000000
 
 abbrev pub noSection : Section
-noSection = record { task = 0; resource = 0; length = 0; parent = Outermost }
+noSection = record { task = record { 0 = 0 }; resource = 0; length = 0; parent = Outermost }
 
 abbrev pub sectionAt : Sections → ℕ → Section
 sectionAt s i = getD (s .section) i noSection
@@ -34,22 +44,22 @@ around (suc n) s (Inside p) = with (around n s (sectionAt s p .parent)) (section
 
 -- "Outer resources of a section are those of its ancestors": at most 12, since each is an earlier section
 unfoldable pub outer : Sections → ℕ → Resources
-outer s i = around 12 s (sectionAt s i .parent)
+outer s i = around sectionNumbers s (sectionAt s i .parent)
 
 -- "1 to 6 tasks, 0 to 12 sections"
 abbrev pub countsFit : Sections → Bool
-countsFit s = leb 1 (s .tasks) && leb (s .tasks) 6 && leb (s .count) 12
+countsFit s = leb 1 (s .tasks) && leb (s .tasks) taskNumbers && leb (s .count) sectionNumbers
 
 -- "a parent (an earlier section of the same task) or none"
 abbrev pub parentFits : Sections → ℕ → Parent → Bool
 parentFits s i Outermost = true
-parentFits s i (Inside p) = ltb p i && eqb (sectionAt s p .task) (sectionAt s i .task)
+parentFits s i (Inside p) = ltb p i && eqb (sectionAt s p .task .0) (sectionAt s i .task .0)
 
 -- "A section has a task, a resource 0 to 15, a length 1 to 1,000,000 .., and a parent"
 unfoldable pub sectionFits : Sections → ℕ → Bool
 sectionFits s i =
-    ltb (sectionAt s i .task) (s .tasks) && leb (sectionAt s i .resource) 15
-    && leb 1 (sectionAt s i .length) && leb (sectionAt s i .length) 1000000
+    ltb (sectionAt s i .task .0) (s .tasks) && leb (sectionAt s i .resource) 15
+    && leb 1 (sectionAt s i .length) && leb (sectionAt s i .length) million
     && parentFits s i (sectionAt s i .parent)
 
 -- "Resources rise strictly from parent to child"
@@ -65,11 +75,12 @@ childLength s i c = if directlyIn (sectionAt s c .parent) (Inside i) then sectio
 unfoldable pub childrenFit : Sections → ℕ → Bool
 childrenFit s i = leb (sumTo (s .count) (childLength s i)) (sectionAt s i .length)
 
+abbrev pub sectionTests : Sections → ℕ → List (ℕ × Bool)
+sectionTests s i = 41 when not (sectionFits s i) or 42 when not (above s (sectionAt s i .resource) (sectionAt s i .parent)) or accepted
+
 -- "41 and 42 by section": what an earlier section is refused for, or else section i
 unfoldable pub sectionRefusal : Sections → ℕ → Option ℕ → Option ℕ
-sectionRefusal s i earlier =
-    earlier
-    orElse firstOf (41 when not (sectionFits s i) or 42 when not (above s (sectionAt s i .resource) (sectionAt s i .parent)) or accepted)
+sectionRefusal s i earlier = earlier orElse firstOf (sectionTests s i)
 
 -- "40 counts; 41 a section's task, resource, length or parent; 42 resource not above its parent's; 43 children too long"
 unfoldable pub tableRefusal : Sections → Option ℕ
@@ -82,4 +93,9 @@ tableRefusal s =
 unfoldable pub refusal : Sections → ℕ → ℕ → Option ℕ
 refusal s t allowance =
     tableRefusal s
-    orElse firstOf (44 when not (ltb t (s .tasks)) or 45 when not (leb 1 allowance && leb allowance 1000000) or accepted)
+    orElse firstOf (44 when not (ltb t (s .tasks)) or 45 when not (leb 1 allowance && leb allowance million) or accepted)
+
+-- a refusal as it is answered
+abbrev pub verdict : Option ℕ → Verdict
+verdict none = Accepted
+verdict (some n) = Refused n

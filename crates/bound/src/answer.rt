@@ -2,32 +2,36 @@
 ghost use mathlib.Core.Path.{_≡_};
 ghost use Rattle.bound.specs.Answer.{answer};
 use crate::Bounded;
+use crate::SECTIONS;
 use crate::Sections;
+use crate::TASKS;
 use crate::Tally;
+use crate::Verdict;
 use crate::draw;
 use crate::interference;
 use crate::interference::Reach;
 use crate::sets;
 use crate::table;
+use model::TaskNo;
 
-// "Start: outermost sections, B the task itself, R empty"
-pub fn bound(s: Sections, task: u16, allowance: u32) -> Bounded
-    ensures { λ r. ⌜ r ≡ answer s task allowance ⌝ }
+// "Start: outermost sections, B the task itself, R empty" (`Answered.spent-is`, `Answered.answer-of`)
+pub fn bound(s: Sections, task: TaskNo, allowance: u32) -> Bounded
+    ensures { λ r. ⌜ r ≡ answer s (task .0) allowance ⌝ }
 {
-    let number = table::refusal(s, task, allowance);
-    if number != 0 {
+    let verdict = table::refusal(s, task, allowance);
+    if let Verdict::Refused(number) = verdict {
         return Bounded::Refused(number);
     }
-    let t = task as usize;
+    let t = task.0 as usize;
     let rows = draw::rows(s);
     let spans = draw::spans(&rows, s.count as usize);
     let outers = draw::outers(&rows, s.count as usize);
     let reach = Reach {
         count: s.count as usize,
         left: s.tasks as usize - 1,
-        depth: 12,
+        depth: SECTIONS,
     };
-    let nobody = [false; 6];
+    let nobody = [false; TASKS];
     let itself = sets::with_task(&nobody, t);
     let found = interference::interference_sum(
         &rows,

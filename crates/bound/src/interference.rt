@@ -1,6 +1,8 @@
 // The interference sum and the ordering value, which call one another until tasks and depth run out (01, "Interference bound"). An allowance is
-// spent for each section weighed, and nothing more is weighed once it is exceeded. The table comes as rows of four numbers for each section,
-// their outer resources, and where a calculation's sections stand (`draw`), so that no weighing copies it. The contracts say what is answered for every table that these show. Assumes nothing.
+// spent for each section weighed, and nothing more is weighed once it is exceeded. The table comes as rows of four numbers for each section, their
+// outer resources, and where a calculation's sections stand (`draw`), so that no weighing copies it. A contract says what a function leaves of the
+// allowance (`Spends`) for the calculation of `Interference` that it names, on every table that the arrays show; the law in brackets is what joins the
+// code's way with that definition. Assumes nothing.
 ghost use mathlib.Core.Path.{_≡_};
 ghost use mathlib.Core.Bool.{true, _&&_};
 ghost use Prim.Native.Nat.{_+_, _-_, _<_, _≤_};
@@ -8,17 +10,20 @@ ghost use lib.Dec.{eqb, ltb};
 ghost use lib.ListN.{getD};
 ghost use Rattle.laws.specs.Tests.{if_then_else_};
 ghost use Rattle.bound.specs.declared.Sections.{Sections};
-ghost use Rattle.bound.specs.Sets.{has, resourcesOf, setsOf};
-ghost use Rattle.bound.specs.Interference.{level, weighing, best, order, blockers, ordering};
-ghost use Rattle.bound.specs.Spending.{Fair};
-ghost use Rattle.bound.specs.Drawn.{Drawn, Ranged, Laid, Spends, parentOf, heldBy, weighedOn, triedNext, sumOver, sumsAt};
+ghost use Rattle.bound.specs.Sets.{taskNumbers, resourceNumbers, has};
+ghost use Rattle.bound.specs.Table.{sectionNumbers, million};
+ghost use Rattle.bound.specs.Interference.{weighing, weighedOn, best, triedNext, order, blockers, ordering, sumOver, level};
+ghost use Rattle.bound.specs.Computed.{resourcesOf, setsOf, parentOf, heldBy, Drawn, Ranged, Laid, Spends, Fair};
+use crate::SECTIONS;
+use crate::TASKS;
 use crate::Tally;
 use crate::draw;
 use crate::draw::END;
 use crate::draw::FROM;
 use crate::draw::LENGTH;
-use crate::draw::PLACE;
+use crate::draw::PARENT;
 use crate::draw::RESOURCE;
+use crate::draw::SPANS;
 use crate::draw::TASK;
 use crate::sets;
 
@@ -36,11 +41,11 @@ fn is_on(row: &[usize; 4], task: usize, resource: usize) -> bool
     (row[TASK] == task) & (row[RESOURCE] == resource)
 }
 
-// Whether the section of this row is the task's, directly in the section at the place.
-fn is_in(row: &[usize; 4], task: usize, place: usize) -> bool
-    ensures { λ r. ⌜ r ≡ (eqb (getD (now (row .entry)) 0 0) task && eqb (getD (now (row .entry)) 3 0) place) ⌝ }
+// Whether the section of this row is the task's, directly in the section of the ordinal.
+fn is_in(row: &[usize; 4], task: usize, ordinal: usize) -> bool
+    ensures { λ r. ⌜ r ≡ (eqb (getD (now (row .entry)) 0 0) task && eqb (getD (now (row .entry)) 3 0) ordinal) ⌝ }
 {
-    (row[TASK] == task) & (row[PLACE] == place)
+    (row[TASK] == task) & (row[PARENT] == ordinal)
 }
 
 fn larger(a: u64, b: u64) -> u64
@@ -49,23 +54,28 @@ fn larger(a: u64, b: u64) -> u64
     if a < b { b } else { a }
 }
 
-// Held once the section at the place has been chosen.
-fn held_after(outer: &[u16; 12], held: u16, place: usize) -> u16
-    requires { ⌜ place ≤ 12 ⌝ }
-    ensures { λ r. ⌜ resourcesOf r ≡ heldBy (setsOf (now (outer .entry))) (resourcesOf held) place ⌝ }
+// Held once the giver, a section or none, has been chosen (`Steps.held-is`).
+fn held_after(outer: &[u16; SECTIONS], held: u16, giver: usize) -> u16
+    requires { ⌜ giver ≤ sectionNumbers ⌝ }
+    ensures { λ r. ⌜ resourcesOf r ≡ heldBy (setsOf (now (outer .entry))) (resourcesOf held) giver ⌝ }
 {
-    if place == 0 {
+    if giver == 0 {
         return held;
     }
-    sets::joined(held, outer[place - 1])
+    sets::joined(held, outer[giver - 1])
 }
 
-// The tasks outside B that have a section on the resource.
-fn blockers(rows: &[[usize; 4]; 12], count: usize, b: &[bool; 6], resource: usize) -> [bool; 6]
+// The tasks outside B that have a section on the resource (`Steps.blocker-turn`).
+fn blockers(
+    rows: &[[usize; 4]; SECTIONS],
+    count: usize,
+    b: &[bool; TASKS],
+    resource: usize,
+) -> [bool; TASKS]
     requires { ⌜ Ranged (now rows) count ⌝ }
     ensures { λ r. ⌜ ((s : Sections) → Drawn s (now (rows .entry)) count → r ≡ blockers s resource (now (b .entry))) ⌝ }
 {
-    let mut found = [false; 6];
+    let mut found = [false; TASKS];
     for i in 0..count {
         let task = rows[i][TASK];
         found[task] = found[task] | ((rows[i][RESOURCE] == resource) & !b[task]);
@@ -73,22 +83,23 @@ fn blockers(rows: &[[usize; 4]; 12], count: usize, b: &[bool; 6], resource: usiz
     found
 }
 
-// What section i weighs, if it is the task's on the resource: nothing where its outer resources meet Held, else its length and its children.
+// What section i weighs, if it is the task's on the resource: nothing where its outer resources meet Held, else its length and its
+// children (`Steps.weigh-is`).
 fn weigh(
-    rows: &[[usize; 4]; 12],
-    spans: &[[usize; 2]; 109],
-    outer: &[u16; 12],
+    rows: &[[usize; 4]; SECTIONS],
+    spans: &[[usize; 2]; SPANS],
+    outer: &[u16; SECTIONS],
     reach: Reach,
-    b: &[bool; 6],
+    b: &[bool; TASKS],
     held: u16,
     resource: usize,
     task: usize,
     i: usize,
     allowance: u32,
 ) -> Tally
-    requires { ⌜ Laid (now rows) (now spans) (reach .count) × (task < 6) × (i < reach .count) × (reach .left ≤ 6) × (allowance ≤ 1000000) ⌝ }
-    ensures is { λ r. ⌜ Spends (now (rows .entry)) (setsOf (now (outer .entry))) (reach .count) (λ s. weighedOn (level (reach .left) s) s resource task (now (b .entry)) (resourcesOf held) i) allowance r ⌝ }
-    ensures fair { λ r. ⌜ Fair (reach .count) 0 allowance r ⌝ }
+    requires { ⌜ Laid (now rows) (now spans) (reach .count) × (task < taskNumbers) × (i < reach .count) × (reach .left ≤ taskNumbers) × (allowance ≤ million) ⌝ }
+    ensures is { λ r. ⌜ Spends (now (rows .entry)) (setsOf (now (outer .entry))) (reach .count) (λ s. weighedOn (weighing (level (reach .left) sectionNumbers s) s (now (b .entry)) (resourcesOf held)) s resource task i) allowance r ⌝ }
+    ensures fair { λ r. ⌜ Fair (reach .count) allowance r ⌝ }
 {
     if !is_on(&rows[i], task, resource) {
         return Tally::Of(0, 0, allowance);
@@ -103,7 +114,7 @@ fn weigh(
     let below = Reach {
         count: reach.count,
         left: reach.left,
-        depth: 12,
+        depth: SECTIONS,
     };
     let wider = sets::with_task(b, task);
     let joint = sets::joined(held, outer[i]);
@@ -114,21 +125,21 @@ fn weigh(
     Tally::Of(rows[i][LENGTH] as u64 + value, 0, left)
 }
 
-// "The first greatest counts": of the task's sections on the resource, by number.
+// "The first greatest counts": of the task's sections on the resource, by number (`Skips.best-to`).
 fn first_greatest(
-    rows: &[[usize; 4]; 12],
-    spans: &[[usize; 2]; 109],
-    outer: &[u16; 12],
+    rows: &[[usize; 4]; SECTIONS],
+    spans: &[[usize; 2]; SPANS],
+    outer: &[u16; SECTIONS],
     reach: Reach,
-    b: &[bool; 6],
+    b: &[bool; TASKS],
     held: u16,
     resource: usize,
     task: usize,
     allowance: u32,
 ) -> Tally
-    requires { ⌜ Laid (now rows) (now spans) (reach .count) × (task < 6) × (reach .left ≤ 6) × (allowance ≤ 1000000) × (resource < 16) ⌝ }
-    ensures is { λ r. ⌜ Spends (now (rows .entry)) (setsOf (now (outer .entry))) (reach .count) (λ s. best (weighing (level (reach .left) s) s (now (b .entry)) (resourcesOf held)) s resource task) allowance r ⌝ }
-    ensures fair { λ r. ⌜ Fair (reach .count) 0 allowance r ⌝ }
+    requires { ⌜ Laid (now rows) (now spans) (reach .count) × (task < taskNumbers) × (reach .left ≤ taskNumbers) × (allowance ≤ million) × (resource < resourceNumbers) ⌝ }
+    ensures is { λ r. ⌜ Spends (now (rows .entry)) (setsOf (now (outer .entry))) (reach .count) (λ s. best (weighing (level (reach .left) sectionNumbers s) s (now (b .entry)) (resourcesOf held)) s resource task) allowance r ⌝ }
+    ensures fair { λ r. ⌜ Fair (reach .count) allowance r ⌝ }
 {
     let on = draw::on_span(task, resource);
     let from = spans[on][FROM];
@@ -150,22 +161,22 @@ fn first_greatest(
     Tally::Of(value, giver, kept)
 }
 
-// "trying each remaining task next, then each remaining after it": this task next, which remains.
+// "trying each remaining task next, then each remaining after it": this task next, which remains (`Steps.tried-is`).
 fn tried_next(
-    rows: &[[usize; 4]; 12],
-    spans: &[[usize; 2]; 109],
-    outer: &[u16; 12],
+    rows: &[[usize; 4]; SECTIONS],
+    spans: &[[usize; 2]; SPANS],
+    outer: &[u16; SECTIONS],
     reach: Reach,
-    b: &[bool; 6],
-    remaining: &[bool; 6],
+    b: &[bool; TASKS],
+    remaining: &[bool; TASKS],
     held: u16,
     resource: usize,
     task: usize,
     allowance: u32,
 ) -> Tally
-    requires { ⌜ Laid (now rows) (now spans) (reach .count) × (task < 6) × (reach .left ≤ 6) × (1 ≤ reach .depth) × (reach .depth ≤ 6) × (allowance ≤ 1000000) × (resource < 16) × (has (now remaining) task ≡ true) ⌝ }
-    ensures is { λ r. ⌜ Spends (now (rows .entry)) (setsOf (now (outer .entry))) (reach .count) (λ s. let weigh = weighing (level (reach .left) s) s in triedNext weigh (order (reach .depth - 1) weigh s resource) s resource (now (b .entry)) (now (remaining .entry)) (resourcesOf held) task) allowance r ⌝ }
-    ensures fair { λ r. ⌜ Fair (reach .count) 0 allowance r ⌝ }
+    requires { ⌜ Laid (now rows) (now spans) (reach .count) × (task < taskNumbers) × (reach .left ≤ taskNumbers) × (1 ≤ reach .depth) × (reach .depth ≤ taskNumbers) × (allowance ≤ million) × (resource < resourceNumbers) × (has (now remaining) task ≡ true) ⌝ }
+    ensures is { λ r. ⌜ Spends (now (rows .entry)) (setsOf (now (outer .entry))) (reach .count) (λ s. let weigh = weighing (level (reach .left) sectionNumbers s) s in triedNext weigh (order (reach .depth - 1) weigh s resource) s resource (now (b .entry)) (now (remaining .entry)) (resourcesOf held) task) allowance r ⌝ }
+    ensures fair { λ r. ⌜ Fair (reach .count) allowance r ⌝ }
 {
     let best = first_greatest(
         rows,
@@ -205,28 +216,28 @@ fn tried_next(
     Tally::Of(next + later, 0, left)
 }
 
-// The remaining tasks "in the order giving the largest sum".
+// The remaining tasks "in the order giving the largest sum" (`Steps.order-made`).
 fn largest_order(
-    rows: &[[usize; 4]; 12],
-    spans: &[[usize; 2]; 109],
-    outer: &[u16; 12],
+    rows: &[[usize; 4]; SECTIONS],
+    spans: &[[usize; 2]; SPANS],
+    outer: &[u16; SECTIONS],
     reach: Reach,
-    b: &[bool; 6],
-    remaining: &[bool; 6],
+    b: &[bool; TASKS],
+    remaining: &[bool; TASKS],
     held: u16,
     resource: usize,
     allowance: u32,
 ) -> Tally
-    requires { ⌜ Laid (now rows) (now spans) (reach .count) × (reach .left ≤ 6) × (reach .depth ≤ 6) × (allowance ≤ 1000000) × (resource < 16) ⌝ }
-    ensures is { λ r. ⌜ Spends (now (rows .entry)) (setsOf (now (outer .entry))) (reach .count) (λ s. order (reach .depth) (weighing (level (reach .left) s) s) s resource (now (b .entry)) (now (remaining .entry)) (resourcesOf held)) allowance r ⌝ }
-    ensures fair { λ r. ⌜ Fair (reach .count) 0 allowance r ⌝ }
+    requires { ⌜ Laid (now rows) (now spans) (reach .count) × (reach .left ≤ taskNumbers) × (reach .depth ≤ taskNumbers) × (allowance ≤ million) × (resource < resourceNumbers) ⌝ }
+    ensures is { λ r. ⌜ Spends (now (rows .entry)) (setsOf (now (outer .entry))) (reach .count) (λ s. order (reach .depth) (weighing (level (reach .left) sectionNumbers s) s) s resource (now (b .entry)) (now (remaining .entry)) (resourcesOf held)) allowance r ⌝ }
+    ensures fair { λ r. ⌜ Fair (reach .count) allowance r ⌝ }
 {
     if reach.depth == 0 {
         return Tally::Of(0, 0, allowance);
     }
     let mut value = 0;
     let mut kept = allowance;
-    for task in 0..6usize {
+    for task in 0..TASKS {
         if !remaining[task] {
             continue;
         }
@@ -252,19 +263,20 @@ fn largest_order(
 }
 
 // "Ordering value: the tasks outside B that have a section on c's resource, in the order giving the largest sum. Held starts as that R."
+// (`Steps.own-is`)
 fn ordering_value(
-    rows: &[[usize; 4]; 12],
-    spans: &[[usize; 2]; 109],
-    outer: &[u16; 12],
+    rows: &[[usize; 4]; SECTIONS],
+    spans: &[[usize; 2]; SPANS],
+    outer: &[u16; SECTIONS],
     reach: Reach,
-    b: &[bool; 6],
+    b: &[bool; TASKS],
     resource: usize,
     entry: u16,
     allowance: u32,
 ) -> Tally
-    requires { ⌜ Laid (now rows) (now spans) (reach .count) × (1 ≤ reach .left) × (reach .left ≤ 6) × (allowance ≤ 1000000) × (resource < 16) ⌝ }
-    ensures is { λ r. ⌜ Spends (now (rows .entry)) (setsOf (now (outer .entry))) (reach .count) (λ s. ordering (reach .left) (level (reach .left - 1) s) s (now (b .entry)) resource (resourcesOf entry)) allowance r ⌝ }
-    ensures fair { λ r. ⌜ Fair (reach .count) 0 allowance r ⌝ }
+    requires { ⌜ Laid (now rows) (now spans) (reach .count) × (1 ≤ reach .left) × (reach .left ≤ taskNumbers) × (allowance ≤ million) × (resource < resourceNumbers) ⌝ }
+    ensures is { λ r. ⌜ Spends (now (rows .entry)) (setsOf (now (outer .entry))) (reach .count) (λ s. ordering (reach .left) (level (reach .left - 1) sectionNumbers s) s (now (b .entry)) resource (resourcesOf entry)) allowance r ⌝ }
+    ensures fair { λ r. ⌜ Fair (reach .count) allowance r ⌝ }
 {
     let found = blockers(rows, reach.count, b, resource);
     let across = Reach {
@@ -285,24 +297,25 @@ fn ordering_value(
     )
 }
 
-// "the ordering value, plus the same calculation on c's direct children, both with R and c's resource": of section c, if it stands there.
+// "the ordering value, plus the same calculation on c's direct children, both with R and c's resource": of section c, if it stands
+// there (`Steps.sum-is`).
 fn sum_over(
-    rows: &[[usize; 4]; 12],
-    spans: &[[usize; 2]; 109],
-    outer: &[u16; 12],
+    rows: &[[usize; 4]; SECTIONS],
+    spans: &[[usize; 2]; SPANS],
+    outer: &[u16; SECTIONS],
     reach: Reach,
-    b: &[bool; 6],
+    b: &[bool; TASKS],
     task: usize,
-    place: usize,
+    ordinal: usize,
     r: u16,
     c: usize,
     allowance: u32,
 ) -> Tally
-    requires { ⌜ Laid (now rows) (now spans) (reach .count) × (c < reach .count) × (1 ≤ reach .left) × (reach .left ≤ 6) × (1 ≤ reach .depth) × (reach .depth ≤ 12) × (allowance ≤ 1000000) ⌝ }
-    ensures is { λ o. ⌜ Spends (now (rows .entry)) (setsOf (now (outer .entry))) (reach .count) (λ s. sumOver (ordering (reach .left) (level (reach .left - 1) s) s (now (b .entry))) (sumsAt (reach .left) (reach .depth - 1) s (now (b .entry)) task) s task (parentOf place) (resourcesOf r) c) allowance o ⌝ }
-    ensures fair { λ o. ⌜ Fair (reach .count) 0 allowance o ⌝ }
+    requires { ⌜ Laid (now rows) (now spans) (reach .count) × (c < reach .count) × (1 ≤ reach .left) × (reach .left ≤ taskNumbers) × (1 ≤ reach .depth) × (reach .depth ≤ sectionNumbers) × (allowance ≤ million) ⌝ }
+    ensures is { λ o. ⌜ Spends (now (rows .entry)) (setsOf (now (outer .entry))) (reach .count) (λ s. sumOver (ordering (reach .left) (level (reach .left - 1) sectionNumbers s) s (now (b .entry))) (level (reach .left) (reach .depth - 1) s (now (b .entry)) task) s task (parentOf ordinal) (resourcesOf r) c) allowance o ⌝ }
+    ensures fair { λ o. ⌜ Fair (reach .count) allowance o ⌝ }
 {
-    if !is_in(&rows[c], task, place) {
+    if !is_in(&rows[c], task, ordinal) {
         return Tally::Of(0, 0, allowance);
     }
     let resource = rows[c][RESOURCE];
@@ -323,21 +336,21 @@ fn sum_over(
     Tally::Of(ordered + value, 0, left)
 }
 
-// "sum over the sections c" of the task that stand directly in the section at the place.
+// "sum over the sections c" of the task that stand directly in the section of the ordinal (`Skips.sum-to`, `Steps.sum-made`).
 pub(crate) fn interference_sum(
-    rows: &[[usize; 4]; 12],
-    spans: &[[usize; 2]; 109],
-    outer: &[u16; 12],
+    rows: &[[usize; 4]; SECTIONS],
+    spans: &[[usize; 2]; SPANS],
+    outer: &[u16; SECTIONS],
     reach: Reach,
-    b: &[bool; 6],
+    b: &[bool; TASKS],
     task: usize,
-    place: usize,
+    ordinal: usize,
     r: u16,
     allowance: u32,
 ) -> Tally
-    requires { ⌜ Laid (now rows) (now spans) (reach .count) × (reach .left ≤ 6) × (reach .depth ≤ 12) × (allowance ≤ 1000000) × (place ≤ 12) ⌝ }
-    ensures is { λ o. ⌜ Spends (now (rows .entry)) (setsOf (now (outer .entry))) (reach .count) (λ s. sumsAt (reach .left) (reach .depth) s (now (b .entry)) task (parentOf place) (resourcesOf r)) allowance o ⌝ }
-    ensures fair { λ o. ⌜ Fair (reach .count) 0 allowance o ⌝ }
+    requires { ⌜ Laid (now rows) (now spans) (reach .count) × (reach .left ≤ taskNumbers) × (reach .depth ≤ sectionNumbers) × (allowance ≤ million) × (ordinal ≤ sectionNumbers) ⌝ }
+    ensures is { λ o. ⌜ Spends (now (rows .entry)) (setsOf (now (outer .entry))) (reach .count) (λ s. level (reach .left) (reach .depth) s (now (b .entry)) task (parentOf ordinal) (resourcesOf r)) allowance o ⌝ }
+    ensures fair { λ o. ⌜ Fair (reach .count) allowance o ⌝ }
 {
     if reach.left == 0 {
         return Tally::Of(0, 0, allowance);
@@ -345,13 +358,13 @@ pub(crate) fn interference_sum(
     if reach.depth == 0 {
         return Tally::Of(0, 0, allowance);
     }
-    let inside = draw::in_span(place);
+    let inside = draw::in_span(ordinal);
     let from = spans[inside][FROM];
     let end = spans[inside][END];
     let mut value = 0;
     let mut kept = allowance;
     for c in from..end {
-        let added = sum_over(rows, spans, outer, reach, b, task, place, r, c, kept);
+        let added = sum_over(rows, spans, outer, reach, b, task, ordinal, r, c, kept);
         let Tally::Of(more, _, left) = added else {
             return Tally::Exceeded;
         };

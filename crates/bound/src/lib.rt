@@ -6,6 +6,16 @@ mod interference;
 mod sets;
 pub mod table;
 
+use model::TaskNo;
+
+// The most tasks and sections that a table may have.
+pub const TASKS: usize = 6;
+
+pub const SECTIONS: usize = 12;
+
+// The longest section, and the largest allowance.
+pub const MILLION: u32 = 1000000;
+
 // Where a section stands: in none, or directly in the section of that number.
 pub enum Parent {
     Outermost,
@@ -13,7 +23,7 @@ pub enum Parent {
 }
 
 pub struct Section {
-    pub task: u16,
+    pub task: TaskNo,
     pub resource: u16,
     pub length: u32,
     pub parent: Parent,
@@ -23,7 +33,13 @@ pub struct Section {
 pub struct Sections {
     pub tasks: u16,
     pub count: u16,
-    pub section: [Section; 12],
+    pub section: [Section; SECTIONS],
+}
+
+// What the tests of a table find: a refusal's number, or none.
+pub enum Verdict {
+    Accepted,
+    Refused(u16),
 }
 
 // The bound and the weighings spent on it, or a refusal's number.
@@ -32,7 +48,7 @@ pub enum Bounded {
     Refused(u16),
 }
 
-// A value, the place of the section that gave it (its number and one, or 0 for none), and the allowance left; or the weighings exceeded it.
+// A value, the ordinal of the section that gave it (its number and one, or 0 for none), and the allowance left; or the weighings exceeded it.
 pub enum Tally {
     Of(u64, usize, u32),
     Exceeded,

@@ -1,10 +1,12 @@
-// Sets of tasks, a test for each number, and of resources, a bit for each. Assumes nothing.
+// Sets of tasks, a test for each number, and of resources, a bit for each (laws of `Masks`). Assumes nothing.
 ghost use mathlib.Core.Path.{_≡_};
 ghost use Prim.Native.Nat.{_<_};
-ghost use Rattle.bound.specs.Sets.{with, without, joined, meets, resourcesOf};
+ghost use Rattle.bound.specs.Sets.{taskNumbers, resourceNumbers, with, without, joined, meets};
+ghost use Rattle.bound.specs.Computed.{resourcesOf};
+use crate::TASKS;
 
-pub(crate) fn with_task(set: &[bool; 6], task: usize) -> [bool; 6]
-    requires { ⌜ task < 6 ⌝ }
+pub(crate) fn with_task(set: &[bool; TASKS], task: usize) -> [bool; TASKS]
+    requires { ⌜ task < taskNumbers ⌝ }
     ensures { λ r. ⌜ r ≡ with (now (set .entry)) task ⌝ }
 {
     let mut wider = *set;
@@ -12,8 +14,8 @@ pub(crate) fn with_task(set: &[bool; 6], task: usize) -> [bool; 6]
     wider
 }
 
-pub(crate) fn without_task(set: &[bool; 6], task: usize) -> [bool; 6]
-    requires { ⌜ task < 6 ⌝ }
+pub(crate) fn without_task(set: &[bool; TASKS], task: usize) -> [bool; TASKS]
+    requires { ⌜ task < taskNumbers ⌝ }
     ensures { λ r. ⌜ r ≡ without (now (set .entry)) task ⌝ }
 {
     let mut fewer = *set;
@@ -22,7 +24,7 @@ pub(crate) fn without_task(set: &[bool; 6], task: usize) -> [bool; 6]
 }
 
 pub(crate) fn with_resource(set: u16, resource: usize) -> u16
-    requires { ⌜ resource < 16 ⌝ }
+    requires { ⌜ resource < resourceNumbers ⌝ }
     ensures { λ r. ⌜ resourcesOf r ≡ with (resourcesOf set) resource ⌝ }
 {
     (1 << resource) | set

@@ -1,66 +1,78 @@
-// The tests of a table, a task and an allowance, 40 to 45 in 01's order. A refusal is handed on as its number, and 0 is none.
+// The tests of a table, a task and an allowance, 40 to 45 in 01's order.
 // Entries past the count are not read. Assumes nothing.
 ghost use mathlib.Core.Path.{_≡_};
 ghost use mathlib.Core.Option.{none};
 ghost use Prim.Native.Nat.{_<_, _≤_};
-ghost use Rattle.laws.specs.Tests.{if_then_else_, firstOf, _orElse_};
+ghost use Rattle.laws.specs.Tests.{if_then_else_, firstOf};
 ghost use Rattle.laws.specs.Loops.{allTo, foldTo};
-ghost use Rattle.bound.specs.Table.{directlyIn, childrenFit, sectionRefusal, tableRefusal, refusal};
-ghost use Rattle.bound.specs.Numbered.{numbered, parentTests, sectionTests};
+ghost use Rattle.bound.specs.Table.{sectionNumbers, directlyIn, childrenFit, sectionTests, sectionRefusal, tableRefusal, refusal, verdict};
+ghost use Rattle.bound.specs.Computed.{firstRefused, refusedIf, parentTests};
+use crate::MILLION;
 use crate::Parent;
 use crate::Section;
 use crate::Sections;
+use crate::Verdict;
+use model::TaskNo;
 
 // The first of two refusals.
-fn or_else(earlier: u16, later: u16) -> u16
-    ensures { λ r. ⌜ numbered r ≡ (numbered earlier orElse numbered later) ⌝ }
+fn or_else(earlier: Verdict, later: Verdict) -> Verdict
+    ensures { λ r. ⌜ r ≡ firstRefused earlier later ⌝ }
 {
-    if earlier == 0 { later } else { earlier }
+    match earlier {
+        Verdict::Accepted => later,
+        Verdict::Refused(n) => Verdict::Refused(n),
+    }
+}
+
+fn refused_if(n: u16, b: bool) -> Verdict
+    ensures { λ r. ⌜ r ≡ refusedIf n b ⌝ }
+{
+    if b {
+        return Verdict::Refused(n);
+    }
+    Verdict::Accepted
 }
 
 // 41 or 42 for section i, where its parent is said to be p.
-fn parent_refusal(s: Sections, i: usize, p: usize) -> u16
-    requires { ⌜ i < 12 ⌝ }
-    ensures { λ r. ⌜ numbered r ≡ firstOf (parentTests s i p) ⌝ }
+fn parent_refusal(s: Sections, i: usize, p: usize) -> Verdict
+    requires { ⌜ i < sectionNumbers ⌝ }
+    ensures { λ r. ⌜ r ≡ verdict (firstOf (parentTests s i p)) ⌝ }
 {
     if i <= p {
-        return 41;
+        return Verdict::Refused(41);
     }
     let section = s.section[i];
     let parent = s.section[p];
-    if parent.task != section.task {
-        return 41;
+    if parent.task.0 != section.task.0 {
+        return Verdict::Refused(41);
     }
-    if section.resource <= parent.resource {
-        return 42;
-    }
-    0
+    refused_if(42, !(parent.resource < section.resource))
 }
 
 // 41 or 42 for section i.
-fn section_refusal(s: Sections, i: usize) -> u16
-    requires { ⌜ i < 12 ⌝ }
-    ensures { λ r. ⌜ numbered r ≡ firstOf (sectionTests s i) ⌝ }
+fn section_refusal(s: Sections, i: usize) -> Verdict
+    requires { ⌜ i < sectionNumbers ⌝ }
+    ensures { λ r. ⌜ r ≡ verdict (firstOf (sectionTests s i)) ⌝ }
 {
     let section = s.section[i];
-    let there = (section.task < s.tasks) & (section.resource <= 15);
-    if !(there & (1 <= section.length) & (section.length <= 1000000)) {
-        return 41;
+    let there = (section.task.0 < s.tasks) & (section.resource <= 15);
+    if !(there & (1 <= section.length) & (section.length <= MILLION)) {
+        return Verdict::Refused(41);
     }
     let parent = section.parent;
     match parent {
-        Parent::Outermost => 0,
+        Parent::Outermost => Verdict::Accepted,
         Parent::Inside(p) => parent_refusal(s, i, p as usize),
     }
 }
 
 // 41 and 42, by section.
-fn sections_refusal(s: Sections) -> u16
-    requires { ⌜ s .count ≤ 12 ⌝ }
-    ensures { λ r. ⌜ numbered r ≡ foldTo (s .count) (sectionRefusal s) none ⌝ }
+fn sections_refusal(s: Sections) -> Verdict
+    requires { ⌜ s .count ≤ sectionNumbers ⌝ }
+    ensures { λ r. ⌜ r ≡ verdict (foldTo (s .count) (sectionRefusal s) none) ⌝ }
 {
     let count = s.count as usize;
-    let mut found = 0;
+    let mut found = Verdict::Accepted;
     for i in 0..count {
         found = or_else(found, section_refusal(s, i));
     }
@@ -85,7 +97,7 @@ fn child_length(section: Section, i: usize) -> u64
 
 // "children's lengths sum to at most the parent's"
 fn children_fit(s: Sections, i: usize) -> bool
-    requires { ⌜ (s .count ≤ 12) × (i < 12) ⌝ }
+    requires { ⌜ (s .count ≤ sectionNumbers) × (i < sectionNumbers) ⌝ }
     ensures { λ r. ⌜ r ≡ childrenFit s i ⌝ }
 {
     let count = s.count as usize;
@@ -100,7 +112,7 @@ fn children_fit(s: Sections, i: usize) -> bool
 
 // 43 is for a table of which this does not hold.
 fn all_children_fit(s: Sections) -> bool
-    requires { ⌜ s .count ≤ 12 ⌝ }
+    requires { ⌜ s .count ≤ sectionNumbers ⌝ }
     ensures { λ r. ⌜ r ≡ allTo (s .count) (childrenFit s) ⌝ }
 {
     let count = s.count as usize;
@@ -112,35 +124,21 @@ fn all_children_fit(s: Sections) -> bool
 }
 
 // 40 to 43.
-pub fn table_refusal(s: Sections) -> u16
-    ensures { λ r. ⌜ numbered r ≡ tableRefusal s ⌝ }
+pub fn table_refusal(s: Sections) -> Verdict
+    ensures { λ r. ⌜ r ≡ verdict (tableRefusal s) ⌝ }
 {
     if !((1 <= s.tasks) & (s.tasks <= 6) & (s.count <= 12)) {
-        return 40;
+        return Verdict::Refused(40);
     }
-    let found = sections_refusal(s);
-    if found != 0 {
-        return found;
-    }
-    if !all_children_fit(s) {
-        return 43;
-    }
-    0
+    let sections = sections_refusal(s);
+    or_else(sections, refused_if(43, !all_children_fit(s)))
 }
 
 // 40 to 45.
-pub(crate) fn refusal(s: Sections, task: u16, allowance: u32) -> u16
-    ensures { λ r. ⌜ numbered r ≡ refusal s task allowance ⌝ }
+pub(crate) fn refusal(s: Sections, task: TaskNo, allowance: u32) -> Verdict
+    ensures { λ r. ⌜ r ≡ verdict (refusal s (task .0) allowance) ⌝ }
 {
-    let found = table_refusal(s);
-    if found != 0 {
-        return found;
-    }
-    if s.tasks <= task {
-        return 44;
-    }
-    if !((1 <= allowance) & (allowance <= 1000000)) {
-        return 45;
-    }
-    0
+    let no_task = refused_if(44, !(task.0 < s.tasks));
+    let no_allowance = refused_if(45, !((1 <= allowance) & (allowance <= MILLION)));
+    or_else(table_refusal(s), or_else(no_task, no_allowance))
 }

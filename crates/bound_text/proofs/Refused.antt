@@ -1,25 +1,27 @@
--- A refusal by its number, and a turn of the search for its line. Assumes nothing.
+-- A verdict against a number, and a turn of the search for its line. Assumes nothing.
 use mathlib.Core.Path.{_≡_, sym, ap, _∙_}
 use mathlib.Core.Bool.{Bool, true, false}
-use mathlib.Core.Option.{Option}
-use Prim.Native.Nat.{ℕ, zero, suc, _+_, _-_, _<_, _≤_}
+use Prim.Native.Nat.{ℕ, suc, _+_, _-_, _<_, _≤_}
 use native.Mathlib.Numerals.{add-one}
 use native.Mathlib.Omega.{arith}
 use lib.Dec.{eqb}
 use lib.ListN.{getD}
 use Rattle.laws.specs.Tests.{if_then_else_}
-use Rattle.bound.specs.Numbered.{numbered}
-use Rattle.bound.specs.Table.{tableRefusal}
+use Rattle.bound.specs.declared.Verdict.{Verdict}
+use Rattle.bound.specs.declared.Verdict.the-variants.{Accepted, Refused}
+use Rattle.bound.specs.Table.{tableRefusal, verdict}
+use Rattle.bound.proofs.Refusals.{verdict-none, verdict-some}
 use Rattle.bound_text.specs.declared.Reading.{Reading}
-use Rattle.bound_text.specs.Faults.{tableTo, numberOf, isRefused, lineFrom, faultyLine}
+use Rattle.bound_text.specs.Faults.{tableTo, isRefused, lineFrom, faultyLine}
 
-number-is : (n : ℕ) (o : Option ℕ) → numbered n ≡ o → n ≡ numberOf o
-number-is zero o e = rw (← e)
-number-is (suc n) o e = rw (← e)
+module _ (r : Reading) (number count : ℕ) (v : Verdict) (told : v ≡ verdict (tableRefusal (tableTo r count))) where
+  pub accepted-is : v ≡ Accepted → false ≡ isRefused r number count
+  unfolding isRefused
+  accepted-is e = rw (verdict-none (tableRefusal (tableTo r count)) (sym told ∙ e))
 
-pub refused-is : (r : Reading) (number count n : ℕ) → numbered n ≡ tableRefusal (tableTo r count) → eqb n number ≡ isRefused r number count
-unfolding isRefused
-refused-is r number count n e = rw (← number-is n (tableRefusal (tableTo r count)) e)
+  pub refused-is : (n : ℕ) → v ≡ Refused n → eqb n number ≡ isRefused r number count
+  unfolding isRefused
+  refused-is n e = rw (verdict-some (tableRefusal (tableTo r count)) n (sym told ∙ e))
 
 module _ (r : Reading) (number : ℕ) where
   pub first-told : (b : Bool) → b ≡ isRefused r number 0 → b ≡ true → r .first ≡ faultyLine r number

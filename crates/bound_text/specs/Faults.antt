@@ -1,5 +1,5 @@
 -- The table that a text was read as, and the line at which it is refused. Assumes nothing.
-use mathlib.Core.Bool.{Bool}
+use mathlib.Core.Bool.{Bool, false}
 use mathlib.Core.Option.{Option, none, some}
 use Prim.Native.Nat.{ℕ, zero, suc}
 use lib.Dec.{eqb}
@@ -13,13 +13,13 @@ use Rattle.bound_text.specs.declared.Reading.{Reading}
 abbrev pub tableTo : Reading → ℕ → Sections
 tableTo r count = record { tasks = r .tasks; count = count; section = r .section }
 
--- a refusal's number, or 0
-abbrev pub numberOf : Option ℕ → ℕ
-numberOf none = 0
-numberOf (some n) = n
+-- it is a refusal, and for the number
+abbrev pub refusedFor : ℕ → Option ℕ → Bool
+refusedFor number none = false
+refusedFor number (some n) = eqb n number
 
 unfoldable pub isRefused : Reading → ℕ → ℕ → Bool
-isRefused r number count = eqb (numberOf (tableRefusal (tableTo r count))) number
+isRefused r number count = refusedFor number (tableRefusal (tableTo r count))
 
 -- the line of the first section from i on, of `left`, with which the table is refused for the number; else that of the thirteenth
 unfoldable pub lineFrom : Reading → ℕ → ℕ → ℕ → ℕ

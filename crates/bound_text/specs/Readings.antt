@@ -41,7 +41,7 @@ parentSaid l = if l .outermost then Outermost else Inside (short (getD (l .value
 abbrev pub sectionSaid : Line → Section
 sectionSaid l =
     record {
-      task = short (getD (l .value) 0 0);
+      task = record { 0 = short (getD (l .value) 0 0) };
       resource = short (getD (l .value) 1 0);
       length = getD (l .value) 2 0;
       parent = parentSaid l;

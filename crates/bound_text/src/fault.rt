@@ -3,6 +3,7 @@ ghost use mathlib.Core.Path.{_≡_};
 ghost use Rattle.bound_text.specs.Faults.{tableTo, isRefused, faultyLine};
 use crate::Reading;
 use bound::Sections;
+use bound::Verdict;
 use bound::table;
 
 // The table of the first sections that were read.
@@ -21,7 +22,11 @@ pub fn table_to(reading: Reading, count: u16) -> Sections
 fn is_refused(reading: Reading, number: u16, count: u16) -> bool
     ensures { λ r. ⌜ r ≡ isRefused reading number count ⌝ }
 {
-    table::table_refusal(table_to(reading, count)) == number
+    let verdict = table::table_refusal(table_to(reading, count));
+    match verdict {
+        Verdict::Accepted => false,
+        Verdict::Refused(n) => n == number,
+    }
 }
 
 // The line for which a table is refused with the number: that of the number of tasks, of the first section with which it is, or of the

@@ -7,12 +7,13 @@ use crate::State;
 use crate::bytes;
 use bound::Parent;
 use bound::Section;
+use model::TaskNo;
 
 fn nothing() -> Reading
     ensures { λ r. ⌜ r ≡ noReading ⌝ }
 {
     let none = Section {
-        task: 0,
+        task: TaskNo(0),
         resource: 0,
         length: 0,
         parent: Parent::Outermost,
@@ -52,7 +53,7 @@ fn section(line: Line) -> Section
     ensures { λ r. ⌜ r ≡ sectionSaid line ⌝ }
 {
     let parent = parent(line);
-    let task = short(line.value[0]);
+    let task = TaskNo(short(line.value[0]));
     let resource = short(line.value[1]);
     Section {
         task,

@@ -2,10 +2,12 @@
 // docs/BOUNDS.md. What is read, and at which line a table is refused, stands in `bound_text`, what is calculated in `bound`; this only writes.
 use bound::Bounded;
 use bound::Sections;
+use bound::Verdict;
 use bound::table;
 use bound_text::Reading;
 use bound_text::fault;
 use libc::STDOUT_FILENO;
+use model::TaskNo;
 
 const ALLOWANCE: u32 = 1000000;
 
@@ -44,8 +46,8 @@ fn put_line(line: u32) {
     put(b": ");
 }
 
-fn put_bound(s: Sections, task: u16, allowance: u32) {
-    put_number(b"task ", task as u64);
+fn put_bound(s: Sections, task: TaskNo, allowance: u32) {
+    put_number(b"task ", task.0 as u64);
     match bound::answer::bound(s, task, allowance) {
         Bounded::Bound(value, weighings) => {
             put_number(b" bound ", value);
@@ -62,7 +64,7 @@ fn put_bound(s: Sections, task: u16, allowance: u32) {
 fn put_bounds(s: Sections, allowance: u32) {
     for task in 0..6u16 {
         if task < s.tasks {
-            put_bound(s, task, allowance);
+            put_bound(s, TaskNo(task), allowance);
         }
     }
 }
@@ -71,6 +73,14 @@ fn put_warning() {
     put(
         b"These figures are the calculation of the paper's Fig. 5, and not a safe bound on what a server can lose.\n",
     );
+}
+
+fn put_fault(reading: Reading, number: u16) {
+    let line = fault::faulty_line(reading, number);
+    if line != 0 {
+        put_line(line);
+    }
+    put_refusal(number);
 }
 
 fn put_reading(reading: Reading, allowance: u32) {
@@ -82,17 +92,13 @@ fn put_reading(reading: Reading, allowance: u32) {
         return;
     }
     let s = fault::table_to(reading, reading.count);
-    let number = table::table_refusal(s);
-    if number == 0 {
-        put_bounds(s, allowance);
-        put_warning();
-        return;
+    match table::table_refusal(s) {
+        Verdict::Accepted => {
+            put_bounds(s, allowance);
+            put_warning();
+        }
+        Verdict::Refused(number) => put_fault(reading, number),
     }
-    let line = fault::faulty_line(reading, number);
-    if line != 0 {
-        put_line(line);
-    }
-    put_refusal(number);
 }
 
 // The first argument as a number; without it a million, with anything else 0, which is refused.

@@ -44,7 +44,7 @@ parentOf b = if eqb b 255 then Outermost else Inside b
 -- task, resource, length and parent
 unfoldable pub sectionIn : List ℕ → ℕ → Section
 sectionIn bytes at = record {
-  task = twoBytes bytes at;
+  task = record { 0 = twoBytes bytes at };
   resource = twoBytes bytes (at + 2);
   length = fourBytes bytes (at + 4);
   parent = parentOf (byteAt bytes (at + 8));

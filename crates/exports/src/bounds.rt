@@ -8,6 +8,7 @@ use crate::sections::is_sections;
 use crate::sections::sections_in;
 use bound::Bounded;
 use image::numbers::put_four;
+use model::TaskNo;
 
 fn put_bound(out: &mut [u8], value: u64, weighings: u32)
     requires { ⌜ length (now out) ≡ boundSize ⌝ }
@@ -30,7 +31,7 @@ pub extern "C" fn vesztamor_bound(sections: &[u8], task: u16, allowance: u32, ou
     if !is_sections(sections) {
         return refusal(40);
     }
-    let answer = bound::answer::bound(sections_in(sections), task, allowance);
+    let answer = bound::answer::bound(sections_in(sections), TaskNo(task), allowance);
     match answer {
         Bounded::Bound(value, weighings) => {
             put_bound(out, value, weighings);

@@ -7,6 +7,7 @@ ghost use Rattle.exports.specs.Tables.{isSections, parentOf, sectionIn, 
 use bound::Parent;
 use bound::Section;
 use bound::Sections;
+use model::TaskNo;
 use trace::numbers::four_bytes;
 use trace::numbers::two_bytes;
 
@@ -34,7 +35,7 @@ fn section_in(bytes: &[u8], at: usize) -> Section
     requires { ⌜ at + 9 ≤ length (now bytes) ⌝ }
     ensures { λ r. ⌜ r ≡ sectionIn (now (bytes .entry)) at ⌝ }
 {
-    let task = two_bytes(bytes, at);
+    let task = TaskNo(two_bytes(bytes, at));
     let resource = two_bytes(bytes, at + 2);
     let length = four_bytes(bytes, at + 4);
     let byte = bytes[at + 8];
@@ -57,7 +58,7 @@ fn section_of(bytes: &[u8], i: usize) -> Section
         section_in(bytes, 4 + 9 * i)
     } else {
         Section {
-            task: 0,
+            task: TaskNo(0),
             resource: 0,
             length: 0,
             parent: Parent::Outermost,
@@ -72,7 +73,7 @@ pub fn sections_in(bytes: &[u8]) -> Sections
     let tasks = two_bytes(bytes, 0);
     let count = two_bytes(bytes, 2);
     let none = Section {
-        task: 0,
+        task: TaskNo(0),
         resource: 0,
         length: 0,
         parent: Parent::Outermost,

@@ -17,8 +17,16 @@ pub all-more : (p : ℕ → Bool) (i : ℕ) → true ≡ p i → true ≡ allTo 
 unfolding allTo
 all-more p i e h = rw (add-one, ← h) e
 
+-- a turn that goes on whatever it finds
+pub all-turn : (p : ℕ → Bool) (i : ℕ) (a b : Bool) → b ≡ p i → a ≡ allTo i p → (a && b) ≡ allTo (i + 1) p
+unfolding allTo
+all-turn p i a b e h = rw add-one (ap₂ _&&_ h e)
+
+pub all-ends : (p : ℕ → Bool) (i n : ℕ) (a : Bool) → i ≤ n → n ≤ i → a ≡ allTo i p → a ≡ allTo n p
+all-ends p = turns-done (λ j. allTo j p)
+
 pub all-done : (p : ℕ → Bool) (i n : ℕ) → i ≤ n → n ≤ i → true ≡ allTo i p → true ≡ allTo n p
-all-done p i n = turns-done (λ j. allTo j p) i n true
+all-done p i n = all-ends p i n true
 
 -- what holds of all holds of each
 pub all-at : (p : ℕ → Bool) (n i : ℕ) → i < n → allTo n p ≡ true → p i ≡ true

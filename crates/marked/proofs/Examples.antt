@@ -63,8 +63,8 @@ unfolding firstOf countTo allTo sumTo setTo foldTo betterOf bestTo joinTo after 
     restedServer rested slept phased ownTicks lentTicks spinTicks runsOut spentServer tickedTask taskBy elapsed rechargedPhase recharged nextInQueue
     shifted granted joined restedEnd locked freed passed unlocked crowded affords endsAt topOf stateAfter attempted stepped sets.inEither sets.joined sets.notInBoth
     sets.meets sections.around sections.outer sections.sectionFits sections.childLength sections.childrenFit sections.sectionRefusal sections.tableRefusal
-    sections.refusal interference.run interference.weighingIf interference.bestTurn interference.best interference.orderTurn interference.order
-    interference.blocker interference.blockers interference.ordering interference.sumTurn interference.sums interference.level interference.bound
+    sections.refusal interference.gathered interference.weighingIf interference.weighedOn interference.best interference.triedNext interference.order
+    interference.blocker interference.blockers interference.ordering interference.sumOver interference.sums interference.level interference.bound
     bounded.answer twoBytes fourBytes bodyLength entryIn recordIn readFault readAt itemsFrom itemsAt items bytes digits decimal field newline spelled phaseWord
     eventLine stopLine serverLine taskLine endLines itemsText listing rowOf meteredRow meteredRows meterRefusal metered notInBoth shares notFrom foundNext
     spread inGroup anyKey groupOf clauses.quotaFrom1 clauses.quotaToPeriod clauses.periodToLimit clauses.depthFits clauses.entriesPresent

@@ -54,7 +54,7 @@ abbrev pub together : List Event
 together = wake 0 ∷ dispatch 0 ∷ lock 0 0 ∷ wake 1 ∷ dispatch 1 ∷ lock 1 0 ∷ Elapse 5 ∷ []
 
 abbrev pub section : ℕ → ℕ → ℕ → Parent → Section
-section t r n p = record { task = t; resource = r; length = n; parent = p }
+section t r n p = record { task = record { 0 = t }; resource = r; length = n; parent = p }
 
 -- so many tasks, and their sections
 abbrev pub sectionsOf : ℕ → List Section → Sections

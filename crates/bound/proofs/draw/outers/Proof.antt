@@ -6,8 +6,8 @@ use native.Mathlib.Omega.{arith}
 use lib.ListN.{length, set, replicate, length-set}
 use Rattle.laws.specs.Loops.{foldTo}
 use Rattle.laws.proofs.Fold.{fold-none, fold-more, fold-done}
-use Rattle.bound.specs.Sets.{noResource, setsOf}
-use Rattle.bound.specs.Drawn.{outerNext, outersIn}
+use Rattle.bound.specs.Sets.{noResource}
+use Rattle.bound.specs.Computed.{setsOf, outerNext, outersIn}
 use Rattle.bound.proofs.Masks.{sets-none, sets-set}
 use Rattle.bound.proofs.draw.outers.Statement.{statement}
 use Rattle.bound.proofs.draw.outers.Tie as tie
@@ -25,7 +25,7 @@ outers-spec =
     (λ c. search needs)
     (λ c κs.
     let start = c .before .before .before .before in
-    (start .pre, omega (arith, start .pre .place-most (c .before .before .before .loop .i) (omega arith))))
+    (start .pre, omega (arith, start .pre .parent-most (c .before .before .before .loop .i) (omega arith))))
     (λ c. search needs)
     (λ c. search needs)
     (λ c. search needs)

@@ -6,7 +6,7 @@ use native.Mathlib.Omega.{arith}
 use lib.ListN.{replicate}
 use Rattle.laws.specs.Loops.{setTo}
 use Rattle.laws.proofs.Set.{set-none, set-more, set-done}
-use Rattle.bound.specs.Drawn.{rowAt, rowsOf}
+use Rattle.bound.specs.Computed.{rowAt, rowsOf}
 use Rattle.bound.proofs.draw.rows.Statement.{statement}
 use Rattle.bound.proofs.draw.rows.Tie as tie
 

@@ -33,7 +33,7 @@ spans-spec =
     (λ c. search needs)
     (λ c κs.
     let start = c .before .before .before .before .before .before .before .before in
-    omega (arith, start .pre .count-most, start .pre .place-most (c .before .before .before .before .before .before .before .loop .i) (omega arith)))
+    omega (arith, start .pre .count-most, start .pre .parent-most (c .before .before .before .before .before .before .before .loop .i) (omega arith)))
     (λ c. search needs)
     (λ c. search needs)
     (λ c κs.

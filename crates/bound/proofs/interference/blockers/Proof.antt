@@ -8,7 +8,7 @@ use Rattle.laws.proofs.Fold.{fold-none, fold-more, fold-done}
 use Rattle.bound.specs.declared.Sections.{Sections}
 use Rattle.bound.specs.Sets.{noTask}
 use Rattle.bound.specs.Interference.{blocker, blockers}
-use Rattle.bound.specs.Drawn.{Drawn}
+use Rattle.bound.specs.Computed.{Drawn}
 use Rattle.bound.proofs.Steps.{blocker-turn}
 use Rattle.bound.proofs.interference.blockers.Statement.{statement}
 use Rattle.bound.proofs.interference.blockers.Tie as tie

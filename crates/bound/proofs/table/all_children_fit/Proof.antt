@@ -4,9 +4,8 @@ use Prim.Native.Nat.{_≤_, _-_}
 use borrow.Author.Needs.{needs}
 use native.Mathlib.Omega.{arith}
 use Rattle.laws.specs.Loops.{allTo}
-use Rattle.laws.proofs.All.{all-none}
+use Rattle.laws.proofs.All.{all-none, all-turn, all-ends}
 use Rattle.bound.specs.Table.{childrenFit}
-use Rattle.bound.proofs.Turns.{all-turn, all-turns}
 use Rattle.bound.proofs.table.all_children_fit.Statement.{statement}
 use Rattle.bound.proofs.table.all_children_fit.Tie as tie
 
@@ -22,4 +21,4 @@ all-children-fit-spec =
     (λ c. search needs)
     (λ c. search needs)
     (λ c. (omega arith, all-turn _ _ _ _ (c .children-fit .ensures) (c .before .before .loop .inv .1)))
-    (λ c. all-turns _ _ _ _ (omega arith) (omega arith) (c .before .loop .inv .1)))
+    (λ c. all-ends _ _ _ _ (omega arith) (omega arith) (c .before .loop .inv .1)))

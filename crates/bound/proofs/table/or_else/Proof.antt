@@ -1,6 +1,6 @@
 -- `bound::table::or_else` meets its contract. Assumes nothing.
 use borrow.Author.Needs.{needs}
-use Rattle.bound.proofs.Refusals.{or-told}
+use Rattle.bound.proofs.Refusals.{first-told}
 use Rattle.bound.proofs.table.or_else.Statement.{statement}
 use Rattle.bound.proofs.table.or_else.Tie as tie
 
@@ -9,4 +9,6 @@ or-else-spec =
     tie.close
     (tie.spec
     (λ c. search needs)
-    (λ c. or-told _ _ (c .if1 .left)))
+    (λ c. search needs)
+    (λ c. search needs)
+    (λ c. first-told _ _ _ (c .before .earlier .given .1)))
