@@ -15,14 +15,13 @@ use vesztamor::Answer;
 /// All of it, safe inside a script element.
 pub fn data(plot: &Plot) -> String {
     let (view, names) = (&plot.view, plot.names);
-    let first = view.moments.first().map_or(0, |moment| moment.number);
     let clocks = view.moments.iter().map(|moment| moment.after.clock);
     let clocks = std::iter::once(view.before.clock).chain(clocks);
     let counts = view.before;
     let members = [
         ("from", view.from.to_string()),
         ("to", view.to.to_string()),
-        ("first", first.to_string()),
+        ("first", view.first.to_string()),
         ("clocks", numbers(clocks)),
         ("labels", list(labels(plot))),
         (
@@ -76,8 +75,7 @@ fn labels(plot: &Plot) -> Vec<String> {
 fn history(view: &View, count: usize, entry: impl Fn(&Snapshot, usize) -> Vec<i64>) -> String {
     let of_entry = |number: usize| {
         let mut last = entry(view.before, number);
-        let before = view.moments.first().map_or(0, |moment| moment.number - 1);
-        let mut found = vec![row(before, &last)];
+        let mut found = vec![row(view.first - 1, &last)];
         for moment in view.moments {
             let now = entry(&moment.after, number);
             if now != last {

@@ -355,8 +355,7 @@ impl<'a> Plot<'a> {
 
     /// A mark's line of the listing, and what happened.
     pub fn told(&self, mark: &Mark) -> String {
-        let first = self.view.moments.first().map_or(0, |moment| moment.number);
-        let moment = &self.view.moments[mark.number - first];
+        let moment = &self.view.moments[mark.number - self.view.first];
         format!(
             "{} · {}",
             words::line(moment),

@@ -80,17 +80,20 @@ impl Run {
     }
 
     /// What happens from one tick to another. An event at either tick belongs to it, and so does
-    /// time that passes across it.
+    /// an elapse of which a part lies between them.
     pub fn view(&self, from: Option<u32>, to: Option<u32>) -> Option<View<'_>> {
         let fresh = self.fresh.as_ref()?;
         let to = to.or(self.last().map(|state| state.clock)).unwrap_or(0);
         let from = from.unwrap_or(0);
         let first = self.moments.partition_point(|m| m.after.clock < from);
-        let end = self.moments.partition_point(|m| m.start <= to);
+        let end = self
+            .moments
+            .partition_point(|m| m.start < to || m.after.clock <= to);
         let before = first.checked_sub(1).map(|i| &self.moments[i].after);
         Some(View {
             from,
             to,
+            first: first + 1,
             before: before.unwrap_or(fresh),
             moments: &self.moments[first..end.max(first)],
             whole: end >= self.moments.len(),
@@ -103,7 +106,9 @@ impl Run {
 pub struct View<'a> {
     pub from: u32,
     pub to: u32,
-    /// The state before its first event.
+    /// The number of its first event, should it have one.
+    pub first: usize,
+    /// The state before that.
     pub before: &'a Snapshot,
     pub moments: &'a [Moment],
     /// Whether it goes to the run's end.
