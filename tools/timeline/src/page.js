@@ -281,7 +281,11 @@ function choose(place) {
   tell();
 }
 
-const fitting = () => Math.max((picture.clientWidth - names - accounts - overhang - 16) / span, 320 / span);
+// The scale at which all of it is seen, the accounts too unless that leaves little room.
+function fitting() {
+  const room = picture.clientWidth - names - overhang - 16;
+  return Math.max(room - accounts >= 560 ? room - accounts : room, 320) / span;
+}
 
 function zoom(wanted) {
   const room = picture.clientWidth - names, x = (data.clocks[current] - data.from) * scale - picture.scrollLeft;

@@ -115,7 +115,7 @@ fn signs_below() -> String {
         "Signs",
         &legend.content,
     );
-    format!("<details>\n<summary>Signs</summary>\n{picture}</details>\n")
+    format!("<details>\n<summary>Signs: what boxes, lines and marks mean</summary>\n{picture}</details>\n")
 }
 
 /// The view's lines of the listing, each with its event in words, and the lines after the last.

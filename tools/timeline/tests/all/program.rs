@@ -48,6 +48,13 @@ fn a_picture_or_a_page() {
 }
 
 #[test]
+fn the_stored_picture_is_what_is_drawn() {
+    let stored = std::fs::read_to_string(tree().join("docs/pictures/incident.svg")).unwrap();
+    let names = ["--names", "examples/incident.names"];
+    assert!(stored == file(&[names[0], names[1], "examples/incident.trace"], b""));
+}
+
+#[test]
 fn standard_input_without_a_file() {
     let trace = std::fs::read(tree().join("examples/incident.trace")).unwrap();
     let named = file(&["examples/incident.trace"], b"");
