@@ -6,7 +6,6 @@
 
 use crate::layout::Entry;
 use crate::marks::{Mark, Sign};
-use crate::names::Names;
 use crate::plot::Plot;
 use crate::run::View;
 use crate::snapshot::{Mode, Phase, Resource, Server, Snapshot, Task};
@@ -17,49 +16,28 @@ pub fn data(plot: &Plot) -> String {
     let (view, names) = (&plot.view, plot.names);
     let clocks = view.moments.iter().map(|moment| moment.after.clock);
     let clocks = std::iter::once(view.before.clock).chain(clocks);
-    let counts = view.before;
+    let tasks = view.before.tasks.len() as u16;
+    let resources = view.before.resources.len() as u16;
+    let servers = |state: &Snapshot, n: usize| server(&state.servers[n]);
+    let all_tasks = |state: &Snapshot, n: usize| task(&state.tasks[n]);
+    let all_resources = |state: &Snapshot, n: usize| resource(&state.resources[n]);
+    let task_names = (0..tasks).map(|n| quoted(&names.task(n)));
+    let resource_names = (0..resources).map(|n| quoted(&names.resource(n)));
     let members = [
         ("from", view.from.to_string()),
         ("to", view.to.to_string()),
         ("first", view.first.to_string()),
         ("clocks", numbers(clocks)),
         ("labels", list(labels(plot))),
-        (
-            "tasks",
-            list((0..counts.tasks.len()).map(|n| quoted(&named_task(names, n)))),
-        ),
-        (
-            "resources",
-            list((0..counts.resources.len()).map(|n| quoted(&named_resource(names, n)))),
-        ),
-        (
-            "server",
-            history(view, counts.servers.len(), |state, n| {
-                server(&state.servers[n])
-            }),
-        ),
-        (
-            "task",
-            history(view, counts.tasks.len(), |state, n| task(&state.tasks[n])),
-        ),
-        (
-            "resource",
-            history(view, counts.resources.len(), |state, n| {
-                resource(&state.resources[n])
-            }),
-        ),
+        ("tasks", list(task_names)),
+        ("resources", list(resource_names)),
+        ("server", history(view, tasks, servers)),
+        ("task", history(view, tasks, all_tasks)),
+        ("resource", history(view, resources, all_resources)),
         ("marks", list(marks(plot))),
     ];
     let members = members.map(|(name, value)| format!("\"{name}\":{value}"));
     format!("{{{}}}", members.join(",\n"))
-}
-
-fn named_task(names: &Names, number: usize) -> String {
-    names.task(number as u16)
-}
-
-fn named_resource(names: &Names, number: usize) -> String {
-    names.resource(number as u16)
 }
 
 /// The sets of labels in the order of their numbers.
@@ -72,7 +50,7 @@ fn labels(plot: &Plot) -> Vec<String> {
 }
 
 /// For each entry, its numbers whenever they changed, each time after the event's number.
-fn history(view: &View, count: usize, entry: impl Fn(&Snapshot, usize) -> Vec<i64>) -> String {
+fn history(view: &View, count: u16, entry: impl Fn(&Snapshot, usize) -> Vec<i64>) -> String {
     let of_entry = |number: usize| {
         let mut last = entry(view.before, number);
         let mut found = vec![row(view.first - 1, &last)];
@@ -85,7 +63,7 @@ fn history(view: &View, count: usize, entry: impl Fn(&Snapshot, usize) -> Vec<i6
         }
         list(found)
     };
-    list((0..count).map(of_entry))
+    list((0..count.into()).map(of_entry))
 }
 
 fn row(event: usize, values: &[i64]) -> String {

@@ -20,8 +20,8 @@ pub struct Part {
 
 /// The signs, in rows of a width.
 pub fn legend(width: f64) -> Part {
-    let mut content = text("heading", 0.0, 12.0, "Signs");
-    let (mut x, mut y) = (0.0, ROW);
+    let mut content = String::new();
+    let (mut x, mut y) = (0.0, 0.0);
     for (sample, says) in samples() {
         let wide = SAMPLE + 6.0 + width_of(says) + 18.0;
         if x + wide > width && x > 0.0 {

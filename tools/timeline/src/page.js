@@ -37,9 +37,13 @@ const stopTick = data.clocks[events] - data.from;
 
 let scale = 1, current = 0, chosen = -1, seenFrom = 0, seenTo = 0;
 
+function set(element, attributes) {
+  for (const key in attributes) element.setAttribute(key, attributes[key]);
+}
+
 function made(parent, name, attributes, content) {
   const element = document.createElementNS("http://www.w3.org/2000/svg", name);
-  for (const key in attributes) element.setAttribute(key, attributes[key]);
+  set(element, attributes);
   if (content !== undefined) element.textContent = content;
   parent.append(element);
   return element;
@@ -61,14 +65,13 @@ function draw() {
   const width = span * scale;
   for (const part of [plot, axis]) part.setAttribute("width", width + overhang);
   for (const { element, from, ticks } of boxes) {
-    element.setAttribute("x", from * scale);
-    element.setAttribute("width", ticks * scale);
+    set(element, { x: from * scale, width: ticks * scale });
     element.classList.toggle("thin", ticks * scale < thin);
   }
   for (const { element, points } of budgets) element.setAttribute("points", points.map(([tick, y]) => tick * scale + "," + y).join(" "));
   for (const { element, tick } of arrows) element.setAttribute("x", tick * scale);
   for (const element of floors) element.setAttribute("x2", width);
-  if (stop) for (const end of ["x1", "x2"]) stop.setAttribute(end, stopTick * scale);
+  if (stop) set(stop, { x1: stopTick * scale, x2: stopTick * scale });
   drawSeen();
   drawCursor();
 }
@@ -171,8 +174,7 @@ function drawMark(parent, marks, x, y) {
 
 function drawCursor() {
   const at = (place) => Math.max(0, data.clocks[Math.max(place, 0)] - data.from) * scale;
-  cursor.setAttribute("x", at(current - 1));
-  cursor.setAttribute("width", Math.max(at(current) - at(current - 1), 0.5));
+  set(cursor, { x: at(current - 1), width: Math.max(at(current) - at(current - 1), 0.5) });
 }
 
 // The entry as it was after an event: the last change up to then.
@@ -275,7 +277,7 @@ function choose(place) {
   chosen = Math.min(Math.max(place, 0), lanes.length - 1);
   heads[chosen].classList.add("chosen");
   const { top, bottom } = lanes[chosen];
-  for (const [name, value] of Object.entries({ y: top - 3, height: bottom - top - 2, width: "100%", visibility: "visible" })) band.setAttribute(name, value);
+  set(band, { y: top - 3, height: bottom - top - 2, width: "100%", visibility: "visible" });
   if (top < picture.scrollTop || bottom > picture.scrollTop + picture.clientHeight - 60) picture.scrollTop = top - 20;
   drawStates();
   tell();
@@ -312,7 +314,7 @@ for (const id in buttons) byId(id).addEventListener("click", keys[buttons[id]]);
 byId("event").addEventListener("change", (change) => go(Number(change.target.value) - data.first + 1));
 lines.forEach((line, i) => line.addEventListener("click", () => go(i + 1)));
 heads.forEach((head, i) => {
-  for (const [name, value] of [["tabindex", 0], ["role", "button"], ["aria-label", lanes[i].kind + " " + head.textContent.trim().replace(/\s+/g, " ")]]) head.setAttribute(name, value);
+  set(head, { tabindex: 0, role: "button", "aria-label": lanes[i].kind + " " + head.querySelector("title").textContent });
   for (const event of ["focus", "click"]) head.addEventListener(event, () => choose(i));
 });
 

@@ -102,7 +102,8 @@ fn board(run: &Run, plot: &Plot) -> String {
 fn part(id: &str, width: f64, height: f64, label: &str, content: &str) -> String {
     let (width, height) = (number(width), number(height));
     format!(
-        "<svg xmlns=\"http://www.w3.org/2000/svg\" id=\"{id}\" width=\"{width}\" height=\"{height}\" role=\"group\" aria-label=\"{label}\">\n{content}</svg>\n"
+        "<svg xmlns=\"http://www.w3.org/2000/svg\" id=\"{id}\" \
+         width=\"{width}\" height=\"{height}\" role=\"group\" aria-label=\"{label}\">\n{content}</svg>\n"
     )
 }
 

@@ -28,11 +28,15 @@ pub fn definitions() -> String {
     for task in 0..TASKS {
         let fill = FILLS[task % FILLS.len()];
         out += &format!(
-            "<pattern id=\"h{task}\" width=\"6\" height=\"6\" patternUnits=\"userSpaceOnUse\" patternTransform=\"rotate(45)\"><rect class=\"paper\" width=\"6\" height=\"6\"/><rect width=\"3\" height=\"6\" fill=\"{fill}\"/></pattern>\n"
+            "<pattern id=\"h{task}\" width=\"6\" height=\"6\" patternUnits=\"userSpaceOnUse\" \
+             patternTransform=\"rotate(45)\"><rect class=\"paper\" width=\"6\" height=\"6\"/>\
+             <rect width=\"3\" height=\"6\" fill=\"{fill}\"/></pattern>\n"
         );
         if task >= FILLS.len() {
             out += &format!(
-                "<pattern id=\"p{task}\" width=\"4\" height=\"4\" patternUnits=\"userSpaceOnUse\"><rect width=\"4\" height=\"4\" fill=\"{fill}\"/><rect width=\"4\" height=\"1\" fill=\"#000\" fill-opacity=\".2\"/></pattern>\n"
+                "<pattern id=\"p{task}\" width=\"4\" height=\"4\" patternUnits=\"userSpaceOnUse\">\
+                 <rect width=\"4\" height=\"4\" fill=\"{fill}\"/>\
+                 <rect width=\"4\" height=\"1\" fill=\"#000\" fill-opacity=\".2\"/></pattern>\n"
             );
         }
     }

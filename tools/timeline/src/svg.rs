@@ -77,7 +77,9 @@ fn opening(heading: &Heading, width: f64, height: f64) -> String {
     let (width, height) = (number(width), number(height));
     let told = heading.stop.clone().unwrap_or_default();
     format!(
-        "<svg xmlns=\"http://www.w3.org/2000/svg\" viewBox=\"0 0 {width} {height}\" width=\"{width}\" height=\"{height}\" role=\"img\" aria-labelledby=\"what about\">\n<title id=\"what\">{}</title>\n<desc id=\"about\">{} {}</desc>\n",
+        "<svg xmlns=\"http://www.w3.org/2000/svg\" viewBox=\"0 0 {width} {height}\" \
+         width=\"{width}\" height=\"{height}\" role=\"img\" aria-labelledby=\"what about\">\n\
+         <title id=\"what\">{}</title>\n<desc id=\"about\">{} {}</desc>\n",
         escaped(&heading.title),
         escaped(&heading.facts),
         escaped(&told)
@@ -99,6 +101,8 @@ fn drawn(run: &Run, plot: &Plot) -> (String, f64, f64) {
     out += &moved(0.0, AXIS, &plot.labels());
     out += &moved(right, AXIS, &plot.accounts());
     let mut height = AXIS + plot.layout.height + 8.0;
+    out += &text("heading", 0.0, height + 12.0, "Signs");
+    height += 20.0;
     for part in [legend(width), mark_lines(plot, width)] {
         out += &moved(0.0, height, &part.content);
         height += part.height + 8.0;

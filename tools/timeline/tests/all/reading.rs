@@ -97,55 +97,43 @@ fn resource_agrees(state: &other::State, snapshot: &Snapshot, number: usize) -> 
     resource.owner == other.owner.map(|task| task.0) && resource.queue == queue
 }
 
+fn counts_agree(state: &other::State, snapshot: &Snapshot) -> bool {
+    (snapshot.processors, snapshot.clock) == (state.processors, state.clock)
+        && snapshot.servers.len() == usize::from(state.tasks)
+        && snapshot.tasks.len() == usize::from(state.tasks)
+        && snapshot.resources.len() == usize::from(state.resources)
+}
+
+/// The fresh state of a trace's table.
+fn fresh(records: &[Record]) -> Option<State> {
+    let bodies = records.iter().map(|record| match record {
+        Record::Table(body) => body,
+        Record::Event(_) => &[][..],
+    });
+    let table: Vec<u8> = bodies.flatten().copied().collect();
+    State::fresh(&table).ok()
+}
+
 #[test]
 fn states_are_those_that_the_second_program_reads() {
     let mut seen = 0;
     for (name, trace) in seeded(60) {
-        let table: Vec<u8> = records(&trace)
-            .iter()
-            .flat_map(|record| match record {
-                Record::Table(body) => body.to_vec(),
-                Record::Event(_) => Vec::new(),
-            })
-            .collect();
-        let Ok(mut state) = State::fresh(&table) else {
+        let records = records(&trace);
+        let Some(mut state) = fresh(&records) else {
             continue;
         };
-        for record in records(&trace) {
-            let Record::Event(event) = record else {
-                continue;
-            };
-            state.step(event);
-            let (snapshot, other) = (Snapshot::of(&state), decode(&state.bytes).unwrap());
-            let counts = (
-                snapshot.processors,
-                snapshot.clock,
-                snapshot.tasks.len(),
-                snapshot.resources.len(),
-            );
-            assert_eq!(
-                counts,
-                (
-                    other.processors,
-                    other.clock,
-                    other.tasks.into(),
-                    other.resources.into()
-                ),
-                "{name}"
-            );
-            assert!(
-                (0..counts.2).all(|n| server_agrees(&other, &snapshot, n)),
-                "{name}: {event:?}"
-            );
-            assert!(
-                (0..counts.2).all(|n| task_agrees(&other, &snapshot, n)),
-                "{name}: {event:?}"
-            );
-            assert!(
-                (0..counts.3).all(|n| resource_agrees(&other, &snapshot, n)),
-                "{name}: {event:?}"
-            );
-            seen += 1;
+        for record in &records {
+            if let Record::Event(event) = *record {
+                state.step(event);
+                let (snapshot, other) = (Snapshot::of(&state), decode(&state.bytes).unwrap());
+                let (tasks, resources) = (snapshot.tasks.len(), snapshot.resources.len());
+                let agrees = counts_agree(&other, &snapshot)
+                    && (0..tasks).all(|n| server_agrees(&other, &snapshot, n))
+                    && (0..tasks).all(|n| task_agrees(&other, &snapshot, n))
+                    && (0..resources).all(|n| resource_agrees(&other, &snapshot, n));
+                assert!(agrees, "{name}: {event:?}");
+                seen += 1;
+            }
         }
     }
     assert!(seen > 5_000, "only {seen} states");
