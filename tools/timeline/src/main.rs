@@ -16,8 +16,7 @@ use timeline::svg::svg;
 const MOST: u64 = 60_001;
 
 fn main() -> ExitCode {
-    let words: Vec<String> = std::env::args().skip(1).collect();
-    let done = match command(&words) {
+    let done = match words().and_then(|words| command(&words)) {
         Ok(Command::Help) => written(HELP),
         Ok(Command::Draw(asked)) => drawn(&asked).and_then(|file| written(&file)),
         Err(fault) => {
@@ -32,6 +31,14 @@ fn main() -> ExitCode {
             ExitCode::FAILURE
         }
     }
+}
+
+fn words() -> Result<Vec<String>, String> {
+    let text = |word: std::ffi::OsString| {
+        let told = |word| format!("{word:?} is no text; rename the file or use standard input");
+        word.into_string().map_err(told)
+    };
+    std::env::args_os().skip(1).map(text).collect()
 }
 
 fn drawn(asked: &Arguments) -> Result<String, String> {

@@ -85,6 +85,13 @@ function drawSeen() {
   for (const box of boxes) drawLabel(box);
   for (const lane of lanes) drawMarks(written, lane.marks, lane.top);
   drawMarks(axis, over, 0);
+  showMark();
+}
+
+// The mark of the current event, where it stands by itself.
+function showMark() {
+  document.querySelector("g.m.now")?.classList.remove("now");
+  document.querySelector(`g.m[data-e="${data.first + current - 1}"]`)?.classList.add("now");
 }
 
 const seen = (x) => x >= seenFrom && x <= seenTo;
@@ -165,7 +172,7 @@ function drawMarks(parent, marks, y) {
 function drawMark(parent, marks, x, y) {
   if (!seen(x)) return;
   const [sign, content] = marks.length === 1 ? [marks[0].sign, marks[0].event] : ["several", "×" + marks.length];
-  const group = made(parent, "g", { class: "m " + sign, transform: `translate(${x} ${y})` });
+  const group = made(parent, "g", { class: "m " + sign, transform: `translate(${x} ${y})`, "data-e": content });
   const told = marks.slice(0, 12).map((mark) => said(lines[mark.event - data.first]));
   made(group, "title", {}, told.concat(marks.length > 12 ? [`and ${marks.length - 12} more`] : []).join("\n"));
   made(group, "use", { href: "#" + sign });
@@ -268,6 +275,7 @@ function go(place) {
   const x = (data.clocks[current] - data.from) * scale, room = picture.clientWidth - names;
   if (x < picture.scrollLeft || x > picture.scrollLeft + room) picture.scrollLeft = x - room / 2;
   drawCursor();
+  showMark();
   drawStates();
   tell();
 }

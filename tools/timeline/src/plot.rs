@@ -51,7 +51,7 @@ impl<'a> Plot<'a> {
             .filter(|mark| mark.entry.is_none())
             .collect();
         Plot {
-            scale: Scale::fitting(view.from, view.to.max(view.from)),
+            scale: Scale::fitting(view.from, view.to),
             layout: layout(&lanes),
             titled: count <= TITLED,
             labelled: BTreeMap::new(),

@@ -83,8 +83,9 @@ impl Run {
     /// an elapse of which a part lies between them.
     pub fn view(&self, from: Option<u32>, to: Option<u32>) -> Option<View<'_>> {
         let fresh = self.fresh.as_ref()?;
-        let to = to.or(self.last().map(|state| state.clock)).unwrap_or(0);
         let from = from.unwrap_or(0);
+        let end = self.last().map_or(0, |state| state.clock);
+        let to = to.unwrap_or(end).max(from);
         let first = self.moments.partition_point(|m| m.after.clock < from);
         let end = self
             .moments

@@ -74,6 +74,19 @@ fn a_window_is_named_by_its_ticks() {
     );
     assert!(svg.contains("ticks 3 to 7"));
     assert!(!svg.contains("20 refused 6"));
+    assert!(file(&["--from", "99", "examples/incident.trace"], b"").contains("ticks 99 to 99"));
+}
+
+#[test]
+fn a_word_that_is_no_text_is_told() {
+    use std::os::unix::ffi::OsStringExt;
+    let word = std::ffi::OsString::from_vec(vec![b'a', 0xff]);
+    let program = env!("CARGO_BIN_EXE_timeline");
+    let output = Command::new(program).arg(word).output().unwrap();
+    assert_eq!(output.status.code(), Some(2));
+    assert!(output
+        .stderr
+        .starts_with(b"timeline: \"a\\xFF\" is no text"));
 }
 
 #[test]
