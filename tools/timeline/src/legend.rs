@@ -39,9 +39,7 @@ pub fn legend(width: f64) -> Part {
 
 fn samples() -> Vec<(String, &'static str)> {
     let boxed = |class: &str| rectangle(class, 0.0, 1.0, SAMPLE, 13.0);
-    let used = |sign: &str| {
-        format!("<use href=\"#{sign}\" x=\"15\" y=\"1\" transform=\"scale(1 .42)\"/>\n")
-    };
+    let used = |sign: &str| format!("<use href=\"#{sign}\" x=\"15\" y=\"-19\"/>\n");
     let mut all = vec![
         (boxed("x t0"), "executes its own task"),
         (boxed("x t0 lent"), "executes another's task (lent)"),

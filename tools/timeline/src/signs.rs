@@ -18,8 +18,8 @@ const MARKS: &str = "\
 <g id=\"freed\"><path d=\"M5 1.4L9 5.5L5 9.6L1 5.5Z\" fill=\"none\" stroke-width=\"1.4\"/></g>
 <g id=\"refused\"><path d=\"M1.8 2.3L8.2 8.7M8.2 2.3L1.8 8.7\" stroke-width=\"2\"/></g>
 <g id=\"several\"><path d=\"M1.5 2.5H8.5M1.5 5.5H8.5M1.5 8.5H8.5\" stroke-width=\"1.3\"/></g>
-<g id=\"deadline\"><path class=\"arrow\" d=\"M0 0V34M-3 30L0 34.5L3 30\"/></g>
-<g id=\"recharge\"><path class=\"arrow\" d=\"M0 35V1M-3 5L0 .5L3 5\"/></g>
+<g id=\"deadline\"><path class=\"arrow\" d=\"M0 18V34M-3 30L0 34.5L3 30\"/></g>
+<g id=\"recharge\"><path class=\"arrow\" d=\"M0 35V19M-3 23L0 18.5L3 23\"/></g>
 ";
 
 /// Patterns and marks, to be used by their names.
