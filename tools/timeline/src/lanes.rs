@@ -59,6 +59,56 @@ pub fn lanes(view: &View, names: &Names) -> Vec<Lane> {
     lanes
 }
 
+/// What stands left of a lane.
+pub struct Head {
+    pub sign: String,
+    pub name: String,
+    /// What the strip is.
+    pub under: String,
+    /// All of it, and what the table says of the entry.
+    pub title: String,
+}
+
+pub fn head(view: &View, names: &Names, entry: Entry) -> Head {
+    let number = entry.number();
+    let table = from_table(view, names, entry);
+    let (letter, name, under) = match entry {
+        Entry::Server(_) => ("S", names.task_name(number), table.as_str()),
+        Entry::Task(_) => ("T", names.task_name(number), "holds"),
+        Entry::Resource(_) => ("R", names.resource_name(number), "queue"),
+    };
+    let (sign, under) = (format!("{letter}{number}"), under.to_string());
+    let name = name.unwrap_or_default().to_string();
+    let known = [sign.clone(), name.clone(), table].into_iter();
+    let title = listed(known.filter(|part| !part.is_empty()));
+    Head {
+        sign,
+        name,
+        under,
+        title,
+    }
+}
+
+/// What the table says of an entry.
+fn from_table(view: &View, names: &Names, entry: Entry) -> String {
+    let number = usize::from(entry.number());
+    match entry {
+        Entry::Server(_) => {
+            let server = &view.before.servers[number];
+            format!("Q {}, P {}", server.quota, server.period)
+        }
+        Entry::Task(_) => {
+            let set = view.before.tasks[number].declared;
+            let declared = (0..u16::BITS as u16).filter(|resource| set >> resource & 1 == 1);
+            match set {
+                0 => "declares nothing".to_string(),
+                _ => format!("declares {}", listed(declared.map(|n| names.resource(n)))),
+            }
+        }
+        Entry::Resource(_) => String::new(),
+    }
+}
+
 /// A lane of boxes, from what is seen in the states and how that looks.
 fn lane<K: PartialEq>(
     view: &View,

@@ -3,8 +3,8 @@
 //! Assumes nothing. Every box says its ticks exactly (`data-t`, its first tick in the window and
 //! its length), whatever its width is rounded to.
 
-use crate::lanes::{lanes, Lane, Look};
-use crate::layout::{layout, Entry, Layout, Place, BOX, BUDGET, STRIP};
+use crate::lanes::{head, lanes, Lane, Look};
+use crate::layout::{layout, Layout, Place, BOX, BUDGET, STRIP};
 use crate::marks::{marks, placed, Mark, Placed};
 use crate::markup::{cut, escaped, line, number, rectangle, text, title, width_of};
 use crate::names::Names;
@@ -97,39 +97,13 @@ impl<'a> Plot<'a> {
     }
 
     fn label(&self, lane: &Lane, place: &Place) -> String {
-        let number = lane.entry.number();
-        let (sign, name, under) = match lane.entry {
-            Entry::Server(_) => {
-                let server = &self.view.before.servers[usize::from(number)];
-                let reservation = format!("Q {}, P {}", server.quota, server.period);
-                (
-                    format!("S{number}"),
-                    self.names.task_name(number),
-                    reservation,
-                )
-            }
-            Entry::Task(_) => (
-                format!("T{number}"),
-                self.names.task_name(number),
-                "holds".to_string(),
-            ),
-            Entry::Resource(_) => (
-                format!("R{number}"),
-                self.names.resource_name(number),
-                "queue".to_string(),
-            ),
-        };
-        let full = format!("{sign} {}", name.unwrap_or_default());
-        let mut out = format!("<g>{}\n", title(full.trim_end()));
-        out += &text("sign", 0.0, place.boxes + 14.0, &sign);
-        out += &text(
-            "name",
-            30.0,
-            place.boxes + 14.0,
-            &cut(name.unwrap_or_default(), LABELS - 36.0),
-        );
+        let head = head(&self.view, self.names, lane.entry);
+        let mut out = format!("<g>{}\n", title(&head.title));
+        let (base, name) = (place.boxes + 14.0, cut(&head.name, LABELS - 36.0));
+        out += &text("sign", 0.0, base, &head.sign);
+        out += &text("name", 30.0, base, &name);
         if place.bottom - place.strip > 9.0 {
-            out += &text("under", 30.0, place.strip + 10.0, &under);
+            out += &text("under", 30.0, place.strip + 10.0, &head.under);
         }
         out + "</g>\n"
     }
