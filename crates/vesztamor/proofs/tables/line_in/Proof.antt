@@ -1,0 +1,19 @@
+-- `vesztamor::tables::line_in` meets its contract. Assumes nothing.
+use mathlib.Core.Path.{_∙_}
+use borrow.Author.Needs.{needs}
+use native.Mathlib.Omega.{arith}
+use Rattle.vesztamor.proofs.Lines.{table-least, table-length, line-yes, line-no}
+use Rattle.vesztamor.proofs.tables.line_in.Statement.{statement}
+use Rattle.vesztamor.proofs.tables.line_in.Tie as tie
+
+pub line-in-spec : {M : Type 1} → statement M
+line-in-spec =
+    tie.close
+    (tie.spec
+    (λ c κs. omega (arith, table-least _ (c .before .pre)))
+    (λ c. search needs)
+    (λ c. search needs)
+    (λ c. search needs)
+    (λ c κs. omega (arith, c .before .two-bytes .ensures, table-length _ (c .before .before .before .pre)))
+    (λ c. c .entry-in .ensures ∙ line-yes _ _ (omega (arith, c .before .before .two-bytes .ensures)))
+    (λ c. line-no _ _ (omega (arith, c .before .two-bytes .ensures))))
