@@ -98,7 +98,7 @@ fn words_are_those_of_the_source() {
 fn kinds_are_those_of_the_source() {
     let kinds = members("vesztamor_kind");
     let mut seen = 0;
-    for line in text("crates/vesztamor/src/stepping.rt").lines() {
+    for line in text("crates/trace/src/kinds.rt").lines() {
         let Some((key, event)) = line.trim().split_once(" => Event::") else { continue };
         let name = event.split('(').next().unwrap().to_uppercase();
         seen += 1;

@@ -17,7 +17,7 @@ use Rattle.trace.specs.declared.Read.the-variants.{Got, End, Fault}
 use Rattle.trace.specs.Reading.{readAt}
 use Rattle.trace.specs.Order.{opening, entering, complete, placeRefusal}
 use Rattle.listing.specs.Listing.{Progress, stopLine, endText}
-use Rattle.listing.specs.Parts.{textFrom, unreadNumber}
+use Rattle.listing.specs.Computed.{textFrom, unreadNumber}
 use Rattle.listing.proofs.Texts.{text-end, text-fault}
 
 -- no fault: the file's end (or a record)

@@ -15,7 +15,7 @@ use Rattle.trace.specs.Reading.{readAt, itemsAfter, itemsAt}
 use Rattle.trace.specs.Order.{placeRefusal, advanced}
 use Rattle.trace.proofs.Items.{items-is}
 use Rattle.listing.specs.Listing.{Progress, started, continued, eventLine, stopLine, endText, recordText, readText, itemsText}
-use Rattle.listing.specs.Parts.{textFrom}
+use Rattle.listing.specs.Computed.{textFrom}
 
 module _ (file : List ℕ) (at : ℕ) where
   -- what is read at the place decides

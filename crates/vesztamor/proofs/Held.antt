@@ -10,13 +10,13 @@ use Rattle.laws.proofs.Cases.{split, none-some}
 use Rattle.model.specs.declared.State.{State}
 use Rattle.model.specs.Sound.{sound}
 use Rattle.model.specs.Said.{ok, refused}
-use Rattle.settle.specs.Doing.{doing}
+use Rattle.settle.specs.Doing.{doing, saidDoing}
 use Rattle.image.specs.declared.ImageAnswer.the-variants.{Held, Refused}
 use Rattle.image.specs.declared.Imaged.{Imaged}
 use Rattle.image.specs.Layout.{imageSize}
 use Rattle.image.specs.Decoded.{isImage, decoded, imagedBy}
 use Rattle.image.proofs.Image.{image-long}
-use Rattle.vesztamor.specs.Exported.{soundExport, doingSaid, executingExport}
+use Rattle.vesztamor.specs.Exported.{soundExport, doingTold, executingExport}
 
 held-by : (d : Option State) (r : Imaged) → r ≡ imagedBy d → r .answer ≡ Held → d ≡ some (r .state)
 held-by none r e h =
@@ -61,6 +61,6 @@ module _ (bytes : List ℕ) where
   unfolding executingExport
   executing-none s e = rw e
 
-  pub executing-some : (st : State) (s : ℕ) → decoded bytes ≡ some st → doingSaid (doing st s) ≡ executingExport bytes s
+  pub executing-some : (st : State) (s : ℕ) → decoded bytes ≡ some st → doingTold (saidDoing (doing st s)) ≡ executingExport bytes s
   unfolding executingExport
   executing-some st s e = rw e

@@ -25,7 +25,8 @@ use Rattle.listing.specs.Replay.{room, replayed, bufferAfter}
 use Rattle.image.specs.Layout.{imageSize}
 use Rattle.image.specs.Decoded.{decoded}
 use Rattle.vesztamor.specs.Tables.{isTable, tableIn, isSections, sectionsIn}
-use Rattle.vesztamor.specs.Exported.{Exported, freshLeft, freshExport, kindKnown, eventOf, isRefused, stepLeft, stepBy, stepExport, boundSize, boundLeft, boundExport, replayExport}
+use Rattle.trace.specs.Reading.{isEvent, eventOf}
+use Rattle.vesztamor.specs.Exported.{Exported, freshLeft, freshExport, isRefused, stepLeft, stepBy, stepExport, boundSize, boundLeft, boundExport, replayExport}
 
 abbrev pub Keeps : List ℕ → Exported → Type 0
 Keeps bytes x = x .answer .0 ≡ refused → x .bytes ≡ bytes
@@ -58,7 +59,7 @@ done-keeps o bytes e = rw (told-refused (o .answer) e)
 held-keeps : (d : Option State) (kind number resource ticks : ℕ) (bytes : List ℕ) → Keeps bytes (stepBy d kind number resource ticks bytes)
 held-keeps none kind number resource ticks bytes = λ e. refl
 held-keeps (some st) kind number resource ticks bytes =
-    either-keeps (kindKnown kind) bytes _ _ (done-keeps (stepped st (eventOf kind number resource ticks)) bytes) (λ e. refl)
+    either-keeps (isEvent kind) bytes _ _ (done-keeps (stepped st (eventOf kind number resource ticks)) bytes) (λ e. refl)
 
 pub fresh-keeps : (table bytes : List ℕ) → Keeps bytes (freshExport table bytes)
 unfolding freshExport

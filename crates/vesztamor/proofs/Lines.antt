@@ -7,9 +7,10 @@ use lib.Dec.{leb}
 use lib.ListN.{length}
 use borrow.Author.Tests.{leb-true, eqb-true, lt-ltb, le-ltb}
 use Rattle.laws.proofs.Cases.{and-left, and-right}
+use Rattle.bytes.specs.Numbers.{twoBytes}
 use Rattle.model.specs.Fresh.{noEntry}
 use Rattle.bound.specs.Table.{noSection}
-use Rattle.trace.specs.Reading.{twoBytes, entryIn}
+use Rattle.trace.specs.Reading.{entryIn}
 use Rattle.vesztamor.specs.Tables.{isTable, lineIn, isSections, sectionIn, sectionOf}
 
 module _ (bytes : List ℕ) where

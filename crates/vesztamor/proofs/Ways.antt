@@ -24,7 +24,8 @@ use Rattle.image.specs.Encoded.{encoded, written}
 use Rattle.image.specs.Decoded.{decoded}
 use Rattle.vesztamor.specs.Packed.{packed}
 use Rattle.vesztamor.specs.Tables.{isTable, tableIn, isSections, sectionsIn}
-use Rattle.vesztamor.specs.Exported.{Exported, refusal, freshExport, boundSize, boundBytes, boundExport, kindKnown, eventOf, isRefused, stepExport, replayExport}
+use Rattle.trace.specs.Reading.{isEvent, eventOf}
+use Rattle.vesztamor.specs.Exported.{Exported, refusal, freshExport, boundSize, boundBytes, boundExport, isRefused, stepExport, replayExport}
 
 -- the two clauses of a contract, from what is exported
 pub both
@@ -83,11 +84,11 @@ module _ (bytes : List ℕ) (kind number resource ticks : ℕ) where
   step-none e = rw e
 
   module _ (st : State) (e : decoded bytes ≡ some st) where
-    pub step-unknown : kindKnown kind ≡ false → stepExport bytes kind number resource ticks ≡ refusal 31 bytes
+    pub step-unknown : isEvent kind ≡ false → stepExport bytes kind number resource ticks ≡ refusal 31 bytes
     unfolding stepExport
     step-unknown n = rw (e, n)
 
-    module _ (known : kindKnown kind ≡ true) (o : Outcome) (does : o ≡ stepped st (eventOf kind number resource ticks)) where
+    module _ (known : isEvent kind ≡ true) (o : Outcome) (does : o ≡ stepped st (eventOf kind number resource ticks)) where
       pub step-refused
           : isRefused (o .answer) ≡ true → stepExport bytes kind number resource ticks ≡ record { answer = said (o .answer); bytes = bytes }
       unfolding stepExport

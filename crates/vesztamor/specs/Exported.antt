@@ -1,13 +1,12 @@
 -- What each exported function answers, and what it leaves of the bytes lent to it. A refusal leaves them as they were. Assumes nothing.
-use mathlib.Core.Bool.{Bool, true, false, _&&_}
+use mathlib.Core.Bool.{Bool, true, false}
 use mathlib.Core.List.{List, _++_}
 use mathlib.Core.Option.{Option, none, some}
 use Prim.Native.Nat.{ℕ, _/_, _%_, _^_}
-use lib.Dec.{leb, eqb}
+use lib.Dec.{eqb}
 use lib.ListN.{length}
 use Rattle.laws.specs.Tests.{if_then_else_}
-use Rattle.model.specs.declared.Event.{Event}
-use Rattle.model.specs.declared.Event.the-variants.{Wake, Suspend, Dispatch, Preempt, Elapse, Recharge, Lock, Unlock}
+use Rattle.bytes.specs.Numbers.{four}
 use Rattle.model.specs.declared.Answer.{Answer}
 use Rattle.model.specs.declared.Answer.the-variants.{Ok, Executes, Spins, Granted, Waits, Passed, Freed, Refused}
 use Rattle.model.specs.declared.FreshAnswer.{FreshAnswer}
@@ -17,16 +16,15 @@ use Rattle.model.specs.declared.State.{State}
 use Rattle.model.specs.Sound.{sound}
 use Rattle.model.specs.Step.{stepped}
 use Rattle.model.specs.Fresh.{freshOf}
-use Rattle.model.specs.Said.{Word, ok, executes, spins, refused, said}
-use Rattle.settle.specs.declared.Doing.{Doing}
-use Rattle.settle.specs.declared.Doing.the-variants as doing
-use Rattle.settle.specs.Doing as asked
+use Rattle.model.specs.Said.{Word, ok, refused, said}
+use Rattle.settle.specs.Doing.{doing, saidDoing}
 use Rattle.bound.specs.declared.Bounded.{Bounded}
 use Rattle.bound.specs.declared.Bounded.the-variants as bounded
 use Rattle.bound.specs.Answer.{answer}
 use Rattle.listing.specs.Replay.{replayed, bufferAfter, saidReplayed}
 use Rattle.image.specs.Layout.{imageSize}
-use Rattle.image.specs.Encoded.{four, encoded}
+use Rattle.trace.specs.Reading.{isEvent, eventOf}
+use Rattle.image.specs.Encoded.{encoded}
 use Rattle.image.specs.Decoded.{decoded}
 use Rattle.vesztamor.specs.Tables.{isTable, tableIn, isSections, sectionsIn}
 
@@ -57,40 +55,17 @@ soundSaid (some st) = if sound st then (ok, 0) else (refused, 1)
 unfoldable pub soundExport : List ℕ → Word × ℕ
 soundExport bytes = soundSaid (decoded bytes)
 
--- the task that a server executes or spins for; `ok` and 0 for a server that is not Running
-abbrev pub doingSaid : Doing → Word × ℕ
-doingSaid (doing.Executes t) = (executes, t .0)
-doingSaid (doing.Spins t) = (spins, t .0)
-doingSaid doing.NotRunning = (ok, 0)
+-- the task that a server executes or spins for; document 01 has no word for a server that is not Running, which is told as `ok` and 0
+abbrev pub doingTold : Option (Word × ℕ) → Word × ℕ
+doingTold none = (ok, 0)
+doingTold (some said) = said
 
 abbrev pub executingSaid : Option State → ℕ → Word × ℕ
 executingSaid none s = (refused, 1)
-executingSaid (some st) s = doingSaid (asked.doing st s)
+executingSaid (some st) s = doingTold (saidDoing (doing st s))
 
 unfoldable pub executingExport : List ℕ → ℕ → Word × ℕ
 executingExport bytes s = executingSaid (decoded bytes) s
-
--- an event by the kind's number of a trace; each kind looks at its own operands alone
-abbrev pub kindKnown : ℕ → Bool
-kindKnown kind = leb 1 kind && leb kind 8
-
-abbrev pub eventOf : ℕ → ℕ → ℕ → ℕ → Event
-eventOf kind number resource ticks =
-    if eqb kind 1
-    then Wake (record { 0 = number })
-    else if eqb kind 2
-    then Suspend (record { 0 = number })
-    else if eqb kind 3
-    then Dispatch (record { 0 = number })
-    else if eqb kind 4
-    then Preempt (record { 0 = number })
-    else if eqb kind 5
-    then Elapse ticks
-    else if eqb kind 6
-    then Recharge (record { 0 = number })
-    else if eqb kind 7
-    then Lock (record { 0 = number }) resource
-    else Unlock (record { 0 = number }) resource
 
 abbrev pub isRefused : Answer → Bool
 isRefused (Ok n) = false
@@ -105,11 +80,11 @@ isRefused (Refused n) = true
 abbrev pub stepLeft : Outcome → List ℕ → Exported
 stepLeft o bytes = record { answer = said (o .answer); bytes = if isRefused (o .answer) then bytes else encoded (o .state) }
 
--- 1 for bytes that are no state's, then 31 for a kind that is no event's, then what the step says
+-- an event by the kind's number of a trace: 1 for bytes that are no state's, then 31 for a kind that is no event's, then what the step says
 abbrev pub stepBy : Option State → ℕ → ℕ → ℕ → ℕ → List ℕ → Exported
 stepBy none kind number resource ticks bytes = refusal 1 bytes
 stepBy (some st) kind number resource ticks bytes =
-    if kindKnown kind then stepLeft (stepped st (eventOf kind number resource ticks)) bytes else refusal 31 bytes
+    if isEvent kind then stepLeft (stepped st (eventOf kind number resource ticks)) bytes else refusal 31 bytes
 
 unfoldable pub stepExport : List ℕ → ℕ → ℕ → ℕ → ℕ → Exported
 stepExport bytes kind number resource ticks = stepBy (decoded bytes) kind number resource ticks bytes

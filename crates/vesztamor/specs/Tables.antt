@@ -6,6 +6,7 @@ use lib.Dec.{ltb, leb, eqb}
 use lib.ListN.{length, replicate}
 use Rattle.laws.specs.Tests.{if_then_else_}
 use Rattle.laws.specs.Loops.{setTo}
+use Rattle.bytes.specs.Numbers.{byteAt, twoBytes, fourBytes}
 use Rattle.model.specs.declared.Entry.{Entry}
 use Rattle.model.specs.declared.Table.{Table}
 use Rattle.model.specs.State.{places}
@@ -15,8 +16,7 @@ use Rattle.bound.specs.declared.Parent.the-variants.{Outermost, Inside}
 use Rattle.bound.specs.declared.Section.{Section}
 use Rattle.bound.specs.declared.Sections.{Sections}
 use Rattle.bound.specs.Table.{noSection}
-use Rattle.trace.specs.Reading.{twoBytes, fourBytes, entryIn}
-use Rattle.image.specs.Layout.{byteAt}
+use Rattle.trace.specs.Reading.{entryIn}
 
 -- processors, tasks, resources, then a line of ten bytes for each task, and no more
 unfoldable pub isTable : List ℕ → Bool

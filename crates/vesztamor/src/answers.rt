@@ -1,8 +1,9 @@
 // Answers as one number: the word's number times 2 ^ 32, and the number. Assumes nothing.
 ghost use mathlib.Core.Path.{_≡_};
 ghost use Rattle.model.specs.Said.{refused, said};
+ghost use Rattle.settle.specs.Doing.{saidDoing};
 ghost use Rattle.vesztamor.specs.Packed.{packed};
-ghost use Rattle.vesztamor.specs.Exported.{doingSaid, isRefused};
+ghost use Rattle.vesztamor.specs.Exported.{doingTold, isRefused};
 use model::Answer;
 use settle::Doing;
 
@@ -57,7 +58,7 @@ pub fn is_refused(answer: Answer) -> bool
 }
 
 pub fn doing_answer(doing: Doing) -> u64
-    ensures { λ r. ⌜ r ≡ packed (doingSaid doing) ⌝ }
+    ensures { λ r. ⌜ r ≡ packed (doingTold (saidDoing doing)) ⌝ }
 {
     match doing {
         Doing::Executes(t) => EXECUTES + t.0 as u64,

@@ -7,14 +7,19 @@ use crate::answers::refusal;
 use crate::sections::is_sections;
 use crate::sections::sections_in;
 use bound::Bounded;
-use image::numbers::put_four;
+use bytes::numbers::put_four;
+
+const BOUND_SIZE: usize = 12;
+
+// 2 ^ 32
+const UPPER_HALF: u64 = 4294967296;
 
 fn put_bound(out: &mut [u8], value: u64, weighings: u32)
     requires { ⌜ length (now out) ≡ boundSize ⌝ }
     ensures { λ _. ⌜ now (out .exit) ≡ boundBytes value weighings ⌝ }
 {
-    put_four(out, 0, (value % 4294967296) as u32);
-    put_four(out, 4, (value / 4294967296) as u32);
+    put_four(out, 0, (value % UPPER_HALF) as u32);
+    put_four(out, 4, (value / UPPER_HALF) as u32);
     put_four(out, 8, weighings);
 }
 
@@ -24,7 +29,7 @@ pub extern "C" fn vesztamor_bound(sections: &[u8], task: u16, allowance: u32, ou
     ensures answer { λ r. ⌜ r ≡ packed (boundExport (now (sections .entry)) task allowance (now (out .entry)) .answer) ⌝ }
     ensures bytes { λ r. ⌜ now (out .exit) ≡ boundExport (now (sections .entry)) task allowance (now (out .entry)) .bytes ⌝ }
 {
-    if out.len() != 12 {
+    if out.len() != BOUND_SIZE {
         return refusal(0);
     }
     if !is_sections(sections) {
@@ -34,7 +39,7 @@ pub extern "C" fn vesztamor_bound(sections: &[u8], task: u16, allowance: u32, ou
     match answer {
         Bounded::Bound(value, weighings) => {
             put_bound(out, value, weighings);
-            12
+            BOUND_SIZE as u64
         }
         Bounded::Refused(n) => refusal(n),
     }

@@ -3,12 +3,13 @@ ghost use mathlib.Core.Path.{_≡_};
 ghost use mathlib.Core.Bool.{true};
 ghost use Prim.Native.Nat.{_+_, _≤_};
 ghost use lib.ListN.{length};
+ghost use Rattle.bound.specs.Table.{noSection};
 ghost use Rattle.vesztamor.specs.Tables.{isSections, parentOf, sectionIn, sectionOf, sectionsIn};
 use bound::Parent;
 use bound::Section;
 use bound::Sections;
-use trace::numbers::four_bytes;
-use trace::numbers::two_bytes;
+use bytes::numbers::four_bytes;
+use bytes::numbers::two_bytes;
 
 pub fn is_sections(bytes: &[u8]) -> bool
     ensures { λ r. ⌜ r ≡ isSections (now (bytes .entry)) ⌝ }
@@ -56,12 +57,18 @@ fn section_of(bytes: &[u8], i: usize) -> Section
     if i < count {
         section_in(bytes, 4 + 9 * i)
     } else {
-        Section {
-            task: 0,
-            resource: 0,
-            length: 0,
-            parent: Parent::Outermost,
-        }
+        no_section()
+    }
+}
+
+fn no_section() -> Section
+    ensures { λ r. ⌜ r ≡ noSection ⌝ }
+{
+    Section {
+        task: 0,
+        resource: 0,
+        length: 0,
+        parent: Parent::Outermost,
     }
 }
 
@@ -71,12 +78,7 @@ pub fn sections_in(bytes: &[u8]) -> Sections
 {
     let tasks = two_bytes(bytes, 0);
     let count = two_bytes(bytes, 2);
-    let none = Section {
-        task: 0,
-        resource: 0,
-        length: 0,
-        parent: Parent::Outermost,
-    };
+    let none = no_section();
     let mut section = [none; 12];
     for i in 0..12usize {
         section[i] = section_of(bytes, i);

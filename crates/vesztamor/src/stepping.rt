@@ -1,36 +1,13 @@
 // The exported step: one event on a state in lent bytes. It takes any bytes and any numbers. Assumes nothing.
 ghost use mathlib.Core.Path.{_≡_};
 ghost use Rattle.vesztamor.specs.Packed.{packed};
-ghost use Rattle.vesztamor.specs.Exported.{kindKnown, eventOf, stepExport};
+ghost use Rattle.vesztamor.specs.Exported.{stepExport};
 use crate::answers::is_refused;
 use crate::answers::refusal;
 use crate::answers::step_answer;
 use image::ImageAnswer;
-use model::Event;
-use model::ServerNo;
-use model::TaskNo;
-
-fn kind_known(kind: u16) -> bool
-    ensures { λ r. ⌜ r ≡ kindKnown kind ⌝ }
-{
-    if 1 <= kind { kind <= 8 } else { false }
-}
-
-// The event of a known kind.
-fn event_of(kind: u16, number: u16, resource: u16, ticks: u32) -> Event
-    ensures { λ r. ⌜ r ≡ eventOf kind number resource ticks ⌝ }
-{
-    match kind {
-        1 => Event::Wake(TaskNo(number)),
-        2 => Event::Suspend(TaskNo(number)),
-        3 => Event::Dispatch(ServerNo(number)),
-        4 => Event::Preempt(ServerNo(number)),
-        5 => Event::Elapse(ticks),
-        6 => Event::Recharge(ServerNo(number)),
-        7 => Event::Lock(TaskNo(number), resource),
-        _ => Event::Unlock(TaskNo(number), resource),
-    }
-}
+use trace::kinds::event_of;
+use trace::kinds::is_event;
 
 // One event: the state after it in place of the bytes, or a refusal and the bytes as they were.
 #[no_mangle]
@@ -50,7 +27,7 @@ pub extern "C" fn vesztamor_step(
     let ImageAnswer::Held = held else {
         return refusal(1);
     };
-    if !kind_known(kind) {
+    if !is_event(kind) {
         return refusal(31);
     }
     let event = event_of(kind, number, resource, ticks);

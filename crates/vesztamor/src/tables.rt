@@ -1,11 +1,22 @@
 // Tables that a caller hands over in bytes. Assumes nothing but what each function says.
 ghost use mathlib.Core.Path.{_≡_};
 ghost use mathlib.Core.Bool.{true};
+ghost use Rattle.model.specs.Fresh.{noEntry};
 ghost use Rattle.vesztamor.specs.Tables.{isTable, lineIn, tableIn};
+use bytes::numbers::two_bytes;
 use model::Entry;
 use model::Table;
 use trace::lines::entry_in;
-use trace::numbers::two_bytes;
+
+fn no_entry() -> Entry
+    ensures { λ r. ⌜ r ≡ noEntry ⌝ }
+{
+    Entry {
+        quota: 0,
+        period: 0,
+        declared: 0,
+    }
+}
 
 pub fn is_table(bytes: &[u8]) -> bool
     ensures { λ r. ⌜ r ≡ isTable (now (bytes .entry)) ⌝ }
@@ -26,11 +37,7 @@ fn line_in(bytes: &[u8], t: usize) -> Entry
     if t < tasks {
         entry_in(bytes, 6 + 10 * t)
     } else {
-        Entry {
-            quota: 0,
-            period: 0,
-            declared: 0,
-        }
+        no_entry()
     }
 }
 
@@ -41,11 +48,7 @@ pub fn table_in(bytes: &[u8]) -> Table
     let processors = two_bytes(bytes, 0);
     let tasks = two_bytes(bytes, 2);
     let resources = two_bytes(bytes, 4);
-    let none = Entry {
-        quota: 0,
-        period: 0,
-        declared: 0,
-    };
+    let none = no_entry();
     let mut entry = [none; 16];
     for t in 0..16usize {
         entry[t] = line_in(bytes, t);

@@ -7,13 +7,8 @@ pub doing-answer-spec : {M : Type 1} → statement M
 doing-answer-spec =
     tie.close
     (tie.spec
-    (λ c. search needs)
-    (λ c. search needs)
-    (λ c. search needs)
-    (λ c. search needs)
-    (λ c. search needs)
-    (λ c. search needs)
-    (λ c. search needs)
+    (λ c. search needs) (λ c. search needs) (λ c. search needs) (λ c. search needs) (λ c. search needs)
+    (λ c. search needs) (λ c. search needs)
     (λ c. rw (c .before .before .doing .given .1))
     (λ c. rw (c .before .before .doing2 .given .1))
     (λ c. rw (c .enum-told .given .1)))

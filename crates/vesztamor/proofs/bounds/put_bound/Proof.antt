@@ -1,7 +1,9 @@
 -- `vesztamor::bounds::put_bound` meets its contract. Assumes nothing.
 use mathlib.Core.Path.{refl, sym, _∙_}
 use borrow.Author.Needs.{needs}
-use Rattle.image.proofs.Puts.{first, next, four-long, stored-whole}
+use Rattle.bytes.proofs.Writing.{stored-whole}
+use Rattle.bytes.proofs.Codec.{four-long}
+use Rattle.bytes.proofs.Parts.{first, next}
 use Rattle.vesztamor.specs.Exported.{boundBytes}
 use Rattle.vesztamor.proofs.bounds.put_bound.Statement.{statement}
 use Rattle.vesztamor.proofs.bounds.put_bound.Tie as tie
@@ -11,11 +13,7 @@ unfolding boundBytes
 put-bound-spec =
     tie.close
     (tie.spec
-    (λ c. search needs)
-    (λ c κs. search needs)
-    (λ c. search needs)
-    (λ c κs. search needs)
-    (λ c κs. search needs)
+    (λ c. search needs) (λ c κs. search needs) (λ c. search needs) (λ c κs. search needs) (λ c κs. search needs)
     (λ c. search needs)
     (λ c.
     let weighings = c .before .before in

@@ -13,8 +13,7 @@ vesztamor-bound-spec =
     (tie.spec
     (λ c κs. search needs)
     (λ c. both _ _ _ _ _ (bound-unfit _ _ _ _ (c .before .if1 .taken)) (c .refusal .ensures) refl)
-    (λ c κs. search needs)
-    (λ c κs. search needs)
+    (λ c κs. search needs) (λ c κs. search needs)
     (λ c.
     let read = c .before .before in
     both _ _ _ _ _
@@ -22,11 +21,7 @@ vesztamor-bound-spec =
     (c .refusal2 .ensures)
     refl)
     (λ c κs. sym (c .before .is-sections .ensures) ∙ not-false _ (c .if2 .left))
-    (λ c κs. search needs)
-    (λ c. search needs)
-    (λ c κs. search needs)
-    (λ c. search needs)
-    (λ c κs. search needs)
+    (λ c κs. search needs) (λ c. search needs) (λ c κs. search needs) (λ c. search needs) (λ c κs. search needs)
     (λ c. search needs)
     (λ c.
     let put = c .before .before in

@@ -9,11 +9,7 @@ pub vesztamor-replay-spec : {M : Type 1} → statement M
 vesztamor-replay-spec =
     tie.close
     (tie.spec
-    (λ c κs. search needs)
-    (λ c. search needs)
-    (λ c. search needs)
-    (λ c κs. search needs)
-    (λ c. search needs)
+    (λ c κs. search needs) (λ c. search needs) (λ c. search needs) (λ c κs. search needs) (λ c. search needs)
     (λ c.
     let told = c .before in
     let made = told .before .before .before .before in

@@ -9,14 +9,8 @@ unfolding sectionIn
 section-in-spec =
     tie.close
     (tie.spec
-    (λ c κs. search needs)
-    (λ c. search needs)
-    (λ c κs. search needs)
-    (λ c. search needs)
-    (λ c κs. search needs)
-    (λ c. search needs)
-    (λ c. search needs)
-    (λ c κs. search needs)
+    (λ c κs. search needs) (λ c. search needs) (λ c κs. search needs) (λ c. search needs) (λ c κs. search needs)
+    (λ c. search needs) (λ c. search needs) (λ c κs. search needs)
     (λ c.
     let length = c .before .before in
     rw (length .before .before .two-bytes .ensures, length .before .two-bytes2 .ensures, length .four-bytes .ensures, c .parent-of .ensures)))

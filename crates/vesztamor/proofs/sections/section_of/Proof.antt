@@ -11,9 +11,8 @@ section-of-spec =
     tie.close
     (tie.spec
     (λ c κs. omega (arith, sections-least _ (c .before .pre)))
-    (λ c. search needs)
-    (λ c. search needs)
-    (λ c. search needs)
+    (λ c. search needs) (λ c. search needs) (λ c. search needs)
     (λ c κs. omega (arith, c .before .two-bytes .ensures, sections-length _ (c .before .before .before .pre)))
+    (λ c κs. search needs)
     (λ c. c .section-in .ensures ∙ section-yes _ _ (omega (arith, c .before .before .two-bytes .ensures)))
-    (λ c. section-no _ _ (omega (arith, c .before .two-bytes .ensures))))
+    (λ c. c .no-section .ensures ∙ section-no _ _ (omega (arith, c .before .before .two-bytes .ensures))))

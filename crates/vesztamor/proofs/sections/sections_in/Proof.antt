@@ -1,6 +1,7 @@
 -- `vesztamor::sections::sections_in` meets its contract. Assumes nothing.
 use mathlib.Core.Path.{_≡_}
 use Prim.Native.Nat.{_≤_, _-_}
+use borrow.Author.Needs.{needs}
 use native.Mathlib.Omega.{arith}
 use lib.ListN.{replicate}
 use Rattle.laws.specs.Loops.{setTo}
@@ -20,18 +21,17 @@ sections-in-spec =
     (λ bytes tasks count section₀ i₀ section i. 12 - i)
     (λ c κs. omega (arith, sections-least _ (c .before .pre)))
     (λ c κs. omega (arith, sections-least _ (c .before .before .pre)))
-    (λ c. (omega arith, set-none _ _))
-    (λ c κs. c .before .before .before .before .before .pre)
-    (λ c. omega arith)
-    (λ c. omega arith)
-    (λ c. omega arith)
-    (λ c. omega arith)
+    (λ c κs. search needs)
+    (λ c. (omega arith, rw (c .no-section .ensures) (set-none _ _)))
+    (λ c κs. c .before .before .before .before .before .before .pre)
+    (λ c. omega arith) (λ c. omega arith) (λ c. omega arith) (λ c. omega arith)
     (λ c. (omega arith, set-more _ _ _ _ _ (c .section-of .ensures) (c .before .before .loop .inv .1)))
     (λ c.
     let at-loop = c .before in
+    let read = at-loop .before .before in
     let sections = set-done _ _ 12 _ _ (at-loop .loop .inv .0) (c .loop-test .left) (at-loop .loop .inv .1) in
     λ j. record {
-      tasks = at-loop .before .before .two-bytes .ensures j;
-      count = at-loop .before .two-bytes2 .ensures j;
+      tasks = read .before .two-bytes .ensures j;
+      count = read .two-bytes2 .ensures j;
       section = sections j;
     }))

@@ -13,17 +13,12 @@ vesztamor-fresh-spec =
     (tie.spec
     (λ c κs. search needs)
     (λ c. both _ _ _ _ _ (fresh-unfit _ _ (c .before .if1 .taken)) (c .refusal .ensures) refl)
-    (λ c κs. search needs)
-    (λ c κs. search needs)
+    (λ c κs. search needs) (λ c κs. search needs)
     (λ c.
     let read = c .before .before in
     both _ _ _ _ _ (fresh-unread _ _ (read .before .if1 .left) (sym (read .is-table .ensures) ∙ not-true _ (c .before .if2 .taken))) (c .refusal2 .ensures) refl)
     (λ c κs. sym (c .before .is-table .ensures) ∙ not-false _ (c .if2 .left))
-    (λ c κs. search needs)
-    (λ c. search needs)
-    (λ c κs. search needs)
-    (λ c. search needs)
-    (λ c κs. search needs)
+    (λ c κs. search needs) (λ c. search needs) (λ c κs. search needs) (λ c. search needs) (λ c κs. search needs)
     (λ c. search needs)
     (λ c.
     let write = c .before .before in

@@ -10,13 +10,9 @@ pub vesztamor-is-sound-spec : {M : Type 1} → statement M
 vesztamor-is-sound-spec =
     tie.close
     (tie.spec
-    (λ c κs. search needs)
-    (λ c. search needs)
-    (λ c. search needs)
-    (λ c κs. search needs)
+    (λ c κs. search needs) (λ c. search needs) (λ c. search needs) (λ c κs. search needs)
     (λ c. c .refusal .ensures ∙ ap packed (sound-none _ (unheld _ _ _ (c .before .before .before .before .read .ensures) (c .before .enum-told2 .given .1))))
-    (λ c κs. search needs)
-    (λ c κs. search needs)
+    (λ c κs. search needs) (λ c κs. search needs)
     (λ c.
     let told = c .before .before in
     ap packed (sound-yes _ _ (held _ _ (told .before .before .before .read .ensures) (told .enum-told .given .1)) (sym (c .before .is-sound .ensures) ∙ c .if1 .taken)))

@@ -11,9 +11,8 @@ line-in-spec =
     tie.close
     (tie.spec
     (λ c κs. omega (arith, table-least _ (c .before .pre)))
-    (λ c. search needs)
-    (λ c. search needs)
-    (λ c. search needs)
+    (λ c. search needs) (λ c. search needs) (λ c. search needs)
     (λ c κs. omega (arith, c .before .two-bytes .ensures, table-length _ (c .before .before .before .pre)))
+    (λ c κs. search needs)
     (λ c. c .entry-in .ensures ∙ line-yes _ _ (omega (arith, c .before .before .two-bytes .ensures)))
-    (λ c. line-no _ _ (omega (arith, c .before .two-bytes .ensures))))
+    (λ c. c .no-entry .ensures ∙ line-no _ _ (omega (arith, c .before .before .two-bytes .ensures))))

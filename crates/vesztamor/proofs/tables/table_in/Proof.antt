@@ -1,6 +1,7 @@
 -- `vesztamor::tables::table_in` meets its contract. Assumes nothing.
 use mathlib.Core.Path.{_≡_}
 use Prim.Native.Nat.{_≤_, _-_}
+use borrow.Author.Needs.{needs}
 use native.Mathlib.Omega.{arith}
 use lib.ListN.{replicate}
 use Rattle.laws.specs.Loops.{setTo}
@@ -21,19 +22,18 @@ table-in-spec =
     (λ c κs. omega (arith, table-least _ (c .before .pre)))
     (λ c κs. omega (arith, table-least _ (c .before .before .pre)))
     (λ c κs. omega (arith, table-least _ (c .before .before .before .pre)))
-    (λ c. (omega arith, set-none _ _))
-    (λ c κs. c .before .before .before .before .before .before .pre)
-    (λ c. omega arith)
-    (λ c. omega arith)
-    (λ c. omega arith)
-    (λ c. omega arith)
+    (λ c κs. search needs)
+    (λ c. (omega arith, rw (c .no-entry .ensures) (set-none _ _)))
+    (λ c κs. c .before .before .before .before .before .before .before .pre)
+    (λ c. omega arith) (λ c. omega arith) (λ c. omega arith) (λ c. omega arith)
     (λ c. (omega arith, set-more _ _ _ _ _ (c .line-in .ensures) (c .before .before .loop .inv .1)))
     (λ c.
     let at-loop = c .before in
+    let read = at-loop .before .before in
     let entries = set-done _ _ 16 _ _ (at-loop .loop .inv .0) (c .loop-test .left) (at-loop .loop .inv .1) in
     λ j. record {
-      processors = at-loop .before .before .before .two-bytes .ensures j;
-      tasks = at-loop .before .before .two-bytes2 .ensures j;
-      resources = at-loop .before .two-bytes3 .ensures j;
+      processors = read .before .before .two-bytes .ensures j;
+      tasks = read .before .two-bytes2 .ensures j;
+      resources = read .two-bytes3 .ensures j;
       entry = entries j;
     }))
