@@ -18,12 +18,20 @@ use Rattle.bound.specs.declared.Sections.{Sections}
 use Rattle.bound.specs.Table.{noSection}
 use Rattle.trace.specs.Reading.{entryIn}
 
--- processors, tasks, resources, then a line of ten bytes for each task, and no more
-unfoldable pub isTable : List ℕ → Bool
-isTable bytes = leb 6 (length bytes) && eqb (length bytes) (6 + 10 * twoBytes bytes 2)
+-- a header, then rows of one size, as many as the header's second number says, and no more
+unfoldable pub isSized : ℕ → ℕ → List ℕ → Bool
+isSized header size bytes = leb header (length bytes) && eqb (length bytes) (header + size * twoBytes bytes 2)
 
-unfoldable pub lineIn : List ℕ → ℕ → Entry
-lineIn bytes t = if ltb t (twoBytes bytes 2) then entryIn bytes (6 + 10 * t) else noEntry
+-- row i, or nothing past the count
+unfoldable pub rowIn : {A : Type 0} → (List ℕ → ℕ → A) → A → ℕ → ℕ → List ℕ → ℕ → A
+rowIn get nothing header size bytes i = if ltb i (twoBytes bytes 2) then get bytes (header + size * i) else nothing
+
+-- processors, tasks, resources, then a line of ten bytes for each task
+abbrev pub isTable : List ℕ → Bool
+isTable bytes = isSized 6 10 bytes
+
+abbrev pub lineIn : List ℕ → ℕ → Entry
+lineIn bytes t = rowIn entryIn noEntry 6 10 bytes t
 
 unfoldable pub tableIn : List ℕ → Table
 tableIn bytes = record {
@@ -33,9 +41,9 @@ tableIn bytes = record {
   entry = setTo places (lineIn bytes) (replicate places noEntry);
 }
 
--- tasks, how many sections, then nine bytes for each section, and no more
-unfoldable pub isSections : List ℕ → Bool
-isSections bytes = leb 4 (length bytes) && eqb (length bytes) (4 + 9 * twoBytes bytes 2)
+-- tasks, how many sections, then nine bytes for each section
+abbrev pub isSections : List ℕ → Bool
+isSections bytes = isSized 4 9 bytes
 
 -- 255 for a section that stands in none
 abbrev pub parentOf : ℕ → Parent
@@ -50,8 +58,8 @@ sectionIn bytes at = record {
   parent = parentOf (byteAt bytes (at + 8));
 }
 
-unfoldable pub sectionOf : List ℕ → ℕ → Section
-sectionOf bytes i = if ltb i (twoBytes bytes 2) then sectionIn bytes (4 + 9 * i) else noSection
+abbrev pub sectionOf : List ℕ → ℕ → Section
+sectionOf bytes i = rowIn sectionIn noSection 4 9 bytes i
 
 unfoldable pub sectionsIn : List ℕ → Sections
 sectionsIn bytes = record {

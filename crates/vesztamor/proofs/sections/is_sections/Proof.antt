@@ -1,12 +1,12 @@
 -- `vesztamor::sections::is_sections` meets its contract. Assumes nothing.
 use borrow.Author.Tests.{lt-leb, le-leb}
 use borrow.Author.Needs.{needs}
-use Rattle.vesztamor.specs.Tables.{isSections}
+use Rattle.vesztamor.specs.Tables.{isSized}
 use Rattle.vesztamor.proofs.sections.is_sections.Statement.{statement}
 use Rattle.vesztamor.proofs.sections.is_sections.Tie as tie
 
 pub is-sections-spec : {M : Type 1} → statement M
-unfolding isSections
+unfolding isSized
 is-sections-spec =
     tie.close
     (tie.spec

@@ -8,7 +8,7 @@ use Rattle.laws.specs.Loops.{setTo}
 use Rattle.laws.proofs.Set.{set-none, set-more, set-done}
 use Rattle.bound.specs.Table.{noSection}
 use Rattle.vesztamor.specs.Tables.{sectionOf, sectionsIn}
-use Rattle.vesztamor.proofs.Lines.{sections-least}
+use Rattle.vesztamor.proofs.Lines.{sized-least}
 use Rattle.vesztamor.proofs.sections.sections_in.Statement.{statement}
 use Rattle.vesztamor.proofs.sections.sections_in.Tie as tie
 
@@ -19,8 +19,8 @@ sections-in-spec =
     (tie.spec
     (λ bytes tasks count section₀ i₀ section i. (i ≤ 12) × (section ≡ setTo i (sectionOf bytes) (replicate 12 noSection)))
     (λ bytes tasks count section₀ i₀ section i. 12 - i)
-    (λ c κs. omega (arith, sections-least _ (c .before .pre)))
-    (λ c κs. omega (arith, sections-least _ (c .before .before .pre)))
+    (λ c κs. omega (arith, sized-least 4 9 _ (c .before .pre)))
+    (λ c κs. omega (arith, sized-least 4 9 _ (c .before .before .pre)))
     (λ c κs. search needs)
     (λ c. (omega arith, rw (c .no-section .ensures) (set-none _ _)))
     (λ c κs. c .before .before .before .before .before .before .pre)

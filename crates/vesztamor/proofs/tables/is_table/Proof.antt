@@ -1,12 +1,12 @@
 -- `vesztamor::tables::is_table` meets its contract. Assumes nothing.
 use borrow.Author.Tests.{lt-leb, le-leb}
 use borrow.Author.Needs.{needs}
-use Rattle.vesztamor.specs.Tables.{isTable}
+use Rattle.vesztamor.specs.Tables.{isSized}
 use Rattle.vesztamor.proofs.tables.is_table.Statement.{statement}
 use Rattle.vesztamor.proofs.tables.is_table.Tie as tie
 
 pub is-table-spec : {M : Type 1} → statement M
-unfolding isTable
+unfolding isSized
 is-table-spec =
     tie.close
     (tie.spec

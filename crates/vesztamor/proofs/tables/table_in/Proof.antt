@@ -8,7 +8,7 @@ use Rattle.laws.specs.Loops.{setTo}
 use Rattle.laws.proofs.Set.{set-none, set-more, set-done}
 use Rattle.model.specs.Fresh.{noEntry}
 use Rattle.vesztamor.specs.Tables.{lineIn, tableIn}
-use Rattle.vesztamor.proofs.Lines.{table-least}
+use Rattle.vesztamor.proofs.Lines.{sized-least}
 use Rattle.vesztamor.proofs.tables.table_in.Statement.{statement}
 use Rattle.vesztamor.proofs.tables.table_in.Tie as tie
 
@@ -19,9 +19,9 @@ table-in-spec =
     (tie.spec
     (λ bytes processors tasks resources entry₀ t₀ entry t. (t ≤ 16) × (entry ≡ setTo t (lineIn bytes) (replicate 16 noEntry)))
     (λ bytes processors tasks resources entry₀ t₀ entry t. 16 - t)
-    (λ c κs. omega (arith, table-least _ (c .before .pre)))
-    (λ c κs. omega (arith, table-least _ (c .before .before .pre)))
-    (λ c κs. omega (arith, table-least _ (c .before .before .before .pre)))
+    (λ c κs. omega (arith, sized-least 6 10 _ (c .before .pre)))
+    (λ c κs. omega (arith, sized-least 6 10 _ (c .before .before .pre)))
+    (λ c κs. omega (arith, sized-least 6 10 _ (c .before .before .before .pre)))
     (λ c κs. search needs)
     (λ c. (omega arith, rw (c .no-entry .ensures) (set-none _ _)))
     (λ c κs. c .before .before .before .before .before .before .before .pre)
