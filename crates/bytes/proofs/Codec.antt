@@ -56,7 +56,7 @@ module _
     {A B : Type 0} {size : ℕ} {putA : A → List ℕ} {getA : List ℕ → ℕ → A} {FitA : A → Type 0} {GoodA : List ℕ → ℕ → Type 0}
     (a : Codec size putA getA FitA GoodA)
     (to : B → A) (from : A → B) (there : (x : A) → to (from x) ≡ x) (home : (b : B) → from (to b) ≡ b)
-    (put : B → List ℕ) (get : List ℕ → ℕ → B) (Fit : B → Type 0) (Good : List ℕ → ℕ → Type 0)
+    {put : B → List ℕ} {get : List ℕ → ℕ → B} {Fit : B → Type 0} {Good : List ℕ → ℕ → Type 0}
   where
     pub recoded
         : ((b : B) → put b ≡ putA (to b))

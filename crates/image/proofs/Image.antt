@@ -73,14 +73,7 @@ state-codec =
       task = p .1 .1 .1 .1 .1 .0;
       resource = p .1 .1 .1 .1 .1 .1;
     })
-    (λ p. refl)
-    (λ st. refl)
-    encoded
-    stateAt
-    Fits
-    GoodAt
-    (λ st. simp append-assoc)
-    (λ bytes at. simp add-assoc)
+    (λ p. refl) (λ st. refl) (λ st. simp append-assoc) (λ bytes at. simp add-assoc)
     (λ st f. (f .processors, (f .tasks, (f .resources, (f .clock, (f .server, (f .task, f .resource)))))))
     (λ bytes at g. record {
       servers = each-moved serverFits serverSize bytes _ (at + serversOffset) (omega arith) (g .1 .1 .1 .1 .0);

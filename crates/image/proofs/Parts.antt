@@ -67,7 +67,7 @@ module _
 task-no-codec : Codec 2 taskNoBytes taskNoIn FitsTaskNo Any
 unfolding taskNoBytes
 task-no-codec =
-    recoded two-codec (λ t. t .0) (λ n. record { 0 = n }) (λ n. refl) (λ t. refl) taskNoBytes taskNoIn FitsTaskNo Any
+    recoded two-codec (λ t. t .0) (λ n. record { 0 = n }) (λ n. refl) (λ t. refl)
     (λ t. refl) (λ bytes at. refl) (λ t fit. fit) (λ bytes at g. tt) (λ bytes at g. tt)
 
 -- an enum as the number of a variant and the number that the variant holds
@@ -179,14 +179,7 @@ server-codec =
       lent = p .1 .1 .1 .1 .1 .1 .0;
       spin = p .1 .1 .1 .1 .1 .1 .1;
     })
-    (λ p. refl)
-    (λ s. refl)
-    serverBytes
-    serverIn
-    FitsServer
-    (λ bytes at. serverFits bytes at ≡ true)
-    (λ s. simp append-assoc)
-    (λ bytes at. simp add-assoc)
+    (λ p. refl) (λ s. refl) (λ s. simp append-assoc) (λ bytes at. simp add-assoc)
     (λ s f. (tt, (f .budget, (f .deadline, (f .quota, (f .period, (f .own, (f .lent, f .spin))))))))
     (λ bytes at g. g .0)
     (λ bytes at g. (g, (tt, (tt, (tt, (tt, (tt, (tt, tt))))))))
@@ -205,14 +198,7 @@ task-codec =
       executed = p .1 .1 .1 .1 .0;
       held = p .1 .1 .1 .1 .1;
     })
-    (λ p. refl)
-    (λ t. refl)
-    taskBytes
-    taskIn
-    FitsTask
-    (λ bytes at. taskFits bytes at ≡ true)
-    (λ t. simp append-assoc)
-    (λ bytes at. simp add-assoc)
+    (λ p. refl) (λ t. refl) (λ t. simp append-assoc) (λ bytes at. simp add-assoc)
     (λ t f. (f .mode, (f .runs, (f .declared, (f .depth, (f .executed, f .held))))))
     (λ bytes at g. and-both _ _ (g .0) (g .1 .0))
     (λ bytes at g. (and-left _ _ g, (and-right (taggedFits 2 bytes at) _ g, (tt, (tt, (tt, λ i l. tt))))))
@@ -224,14 +210,7 @@ resource-codec =
     (tagged-codec owner-tagging then two-codec then sixteen task-no-codec noTaskNo noTaskNo)
     (λ r. (r .owner, (r .waiting, r .queue)))
     (λ p. record { owner = p .0; waiting = p .1 .0; queue = p .1 .1 })
-    (λ p. refl)
-    (λ r. refl)
-    resourceBytes
-    resourceIn
-    FitsResource
-    (λ bytes at. resourceFits bytes at ≡ true)
-    (λ r. simp append-assoc)
-    (λ bytes at. simp add-assoc)
+    (λ p. refl) (λ r. refl) (λ r. simp append-assoc) (λ bytes at. simp add-assoc)
     (λ r f. (f .owner, (f .waiting, f .queue)))
     (λ bytes at g. g .0)
     (λ bytes at g. (g, (tt, λ i l. tt)))

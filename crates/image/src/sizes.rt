@@ -1,4 +1,4 @@
-// Places and sizes of the layout, in bytes: those of specs/Layout.antt. The proofs fail where one is not.
+// Offsets and sizes of the layout, in bytes: those of specs/Layout.antt. The proofs fail where one is not.
 pub const SERVER_SIZE: usize = 29;
 
 pub const TASK_SIZE: usize = 46;

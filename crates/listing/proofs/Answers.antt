@@ -1,4 +1,4 @@
--- What `replay` answers and leaves, from what its parts wrote; and that nothing else meets its contract. Assumes nothing.
+-- What `replay` answers and leaves, from what its parts wrote. Assumes nothing.
 use mathlib.Core.Path.{_≡_, refl, sym, ap, _∙_}
 use mathlib.Core.Bool.{true, false}
 use mathlib.Core.List.{List, _++_}
@@ -83,10 +83,6 @@ module _ (file lent : List ℕ) where
   pub buffer-is : room (length file) ≤ length lent → bufferAfter file lent ≡ listing file ++ drop (length (listing file)) lent
   unfolding bufferAfter
   buffer-is l = rw (le-leb _ _ l) (stored-first lent (listing file) (omega (arith, listing-fits file)))
-
-  -- two answers, and two buffers, that meet the contract are one
-  pub replay-unique : {out other : List ℕ} {r s : Replayed} → Answered file lent out r → Answered file lent other s → (r ≡ s) × (out ≡ other)
-  replay-unique a b = (a .0 ∙ sym (b .0), a .1 .0 ∙ sym (b .1 .0))
 
 -- the buffer of a program is long enough for every file that fits its other buffer
 pub buffers-enough : (n : ℕ) → n ≤ fileBytes → room n ≤ textBytes

@@ -21,7 +21,7 @@ use Rattle.trace.specs.declared.Record.the-variants.{Counts, Reservation, Happe
 use Rattle.trace.specs.declared.Read.{Read}
 use Rattle.trace.specs.declared.Read.the-variants.{Got, End, Fault}
 use Rattle.trace.specs.Reading.{readAt, itemsAfter, itemsFrom, itemsAt, items}
-use Rattle.trace.specs.Order.{Stage, opening, entering, complete, placeRefusal, advanced, fileLimit}
+use Rattle.trace.specs.Order.{Stage, opening, entering, complete, orderRefusal, advanced, fileLimit}
 use Rattle.trace.proofs.Items.{read-moves}
 use Rattle.bytes.specs.Text.{bytes, digits, decimal}
 use Rattle.listing.specs.Text.{field, newline, spelled, phaseWord}
@@ -122,7 +122,7 @@ read-most
     → length (readText (itemsText (itemsAfter (itemsFrom left file) r)) p at r) ≤ left-over (length file) at
 read-most left file at p (Got r q) e h =
     let m = read-moves file at r q e in
-    record-most (itemsText (itemsFrom left file (q .at))) p at (q .at) (length file) (placeRefusal (p .stage) r) r (m .0) (m .1) (h (q .at))
+    record-most (itemsText (itemsFrom left file (q .at))) p at (q .at) (length file) (orderRefusal (p .stage) r) r (m .0) (m .1) (h (q .at))
 read-most left file at p End e h = omega (arith, closing-most (p .stage) (p .state) at)
 read-most left file at p (Fault n) e h = omega (arith, stop-most at n)
 

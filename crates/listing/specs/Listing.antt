@@ -19,7 +19,7 @@ use Rattle.trace.specs.declared.Record.the-variants.{Counts, Reservation, Happe
 use Rattle.trace.specs.declared.Read.{Read}
 use Rattle.trace.specs.declared.Read.the-variants.{Got, End, Fault}
 use Rattle.trace.specs.Reading.{items}
-use Rattle.trace.specs.Order.{Stage, opening, entering, complete, placeRefusal, advanced, fileLimit}
+use Rattle.trace.specs.Order.{Stage, opening, entering, complete, orderRefusal, advanced, fileLimit}
 use Rattle.listing.specs.Text.{bytes, decimal, field, newline, spelled, phaseWord}
 
 -- "Per event: number from 1, answer word (`refused` for a refusal), number."
@@ -84,7 +84,7 @@ recordText rest p at none (Happening e) = eventLine (p .events + 1) (stepped (p 
 
 -- a reading: "Each is tested as it is read, so the file's earliest fault is told; lines already printed stay and no `end` follows."
 abbrev pub readText : (Progress → List ℕ) → Progress → ℕ → Read → List ℕ
-readText rest p at (Got r q) = recordText rest p at (placeRefusal (p .stage) r) r
+readText rest p at (Got r q) = recordText rest p at (orderRefusal (p .stage) r) r
 readText rest p at End = endText (p .stage) (p .state) at
 readText rest p at (Fault n) = stopLine at n
 

@@ -1,4 +1,4 @@
--- Words, fields and lines as bytes. Assumes nothing.
+-- Words, fields and lines as bytes; the words of `bytes` for text are passed on, since every line is made of them. Assumes nothing.
 use mathlib.Core.List.{List, _++_}
 use Prim.Native.Nat.{ℕ}
 unfoldable pub use Rattle.bytes.specs.Text.{bytes, digits, decimal}

@@ -1,4 +1,5 @@
--- What reading a record at a place of a trace gives: document 01, "Trace and replay", its first two paragraphs. Assumes nothing.
+-- What reading a record at a place of a trace gives: document 01, "Trace and replay", its first two paragraphs. The numbers of
+-- `bytes` are passed on, since every record is made of them. Assumes nothing.
 use mathlib.Core.Bool.{Bool, not, _&&_, _||_}
 use mathlib.Core.List.{List, [], _∷_}
 use mathlib.Core.Option.{Option, none, some}
