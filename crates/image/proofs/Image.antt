@@ -16,30 +16,31 @@ use Rattle.laws.proofs.All.{all-at, all-each}
 use Rattle.model.specs.declared.State.{State}
 use Rattle.model.specs.State.{places, noServer, noTask, noResource}
 use Rattle.model.specs.Fresh.{blankServer, blankTask, blankResource, unusable}
-use Rattle.trace.specs.Reading.{twoBytes, fourBytes}
+use Rattle.bytes.specs.Numbers.{twoBytes, fourBytes, Bytes}
+use Rattle.bytes.specs.Writing.{stored}
+use Rattle.bytes.proofs.Writing.{stored-whole}
+use Rattle.bytes.proofs.Stands.{stands-self, stands-whole}
+use Rattle.bytes.proofs.Codec.{Codec, _then_, recoded, two-codec, four-codec}
 use Rattle.image.specs.declared.ImageAnswer.the-variants.{Held, Refused}
-use Rattle.image.specs.Layout.{serverSize, taskSize, resourceSize, serversPlace, tasksPlace, resourcesPlace, imageSize, stored}
+use Rattle.image.specs.Layout.{serverSize, taskSize, resourceSize, serversOffset, tasksOffset, resourcesOffset, imageSize}
 use Rattle.image.specs.Encoded.{encoded, written}
 use Rattle.image.specs.Decoded.{serverFits, taskFits, resourceFits, entriesFit, isImage, entryIn, entriesIn, serverIn, taskIn, resourceIn, stateIn, decoded, imagedBy}
-use Rattle.image.specs.Fits.{Bytes, Fits}
-use Rattle.image.proofs.Stands.{stands-self, stands-whole}
-use Rattle.image.proofs.Codec.{Codec, _then_, recoded, sixteen}
-use Rattle.image.proofs.Parts.{two-codec, four-codec, server-codec, task-codec, resource-codec}
-use Rattle.image.proofs.Puts.{stored-whole}
+use Rattle.image.specs.Fits.{Fits}
+use Rattle.image.proofs.Parts.{sixteen, server-codec, task-codec, resource-codec}
 
--- a state at any place; an image has it at 0
+-- a state at any offset; an image has it at 0
 stateAt : List ℕ → ℕ → State
 stateAt bytes at = record {
   processors = twoBytes bytes at;
   tasks = twoBytes bytes (at + 2);
   resources = twoBytes bytes (at + 4);
   clock = fourBytes bytes (at + 6);
-  server = entriesIn serverIn serverSize blankServer bytes (at + serversPlace);
-  task = entriesIn taskIn taskSize blankTask bytes (at + tasksPlace);
-  resource = entriesIn resourceIn resourceSize blankResource bytes (at + resourcesPlace);
+  server = entriesIn serverIn serverSize blankServer bytes (at + serversOffset);
+  task = entriesIn taskIn taskSize blankTask bytes (at + tasksOffset);
+  resource = entriesIn resourceIn resourceSize blankResource bytes (at + resourcesOffset);
 }
 
--- sixteen entries of one size from a place on pass a test
+-- sixteen entries of one size from an offset on pass a test
 abbrev Each : (List ℕ → ℕ → Bool) → ℕ → List ℕ → ℕ → Type 0
 Each test size bytes at = (i : ℕ) → i < places → test bytes (at + size * i) ≡ true
 
@@ -47,9 +48,9 @@ each-moved : (test : List ℕ → ℕ → Bool) (size : ℕ) (bytes : List ℕ) 
 each-moved test size bytes at to e h = subst (λ k. Each test size bytes k) e h
 
 record GoodAt (bytes : List ℕ) (at : ℕ) : Type 0 where
-  servers : Each serverFits serverSize bytes (at + serversPlace)
-  tasks : Each taskFits taskSize bytes (at + tasksPlace)
-  resources : Each resourceFits resourceSize bytes (at + resourcesPlace)
+  servers : Each serverFits serverSize bytes (at + serversOffset)
+  tasks : Each taskFits taskSize bytes (at + tasksOffset)
+  resources : Each resourceFits resourceSize bytes (at + resourcesOffset)
 
 state-codec : Codec imageSize encoded stateAt Fits GoodAt
 unfolding encoded stateAt
@@ -72,24 +73,17 @@ state-codec =
       task = p .1 .1 .1 .1 .1 .0;
       resource = p .1 .1 .1 .1 .1 .1;
     })
-    (λ p. refl)
-    (λ st. refl)
-    encoded
-    stateAt
-    Fits
-    GoodAt
-    (λ st. simp append-assoc)
-    (λ bytes at. simp add-assoc)
+    (λ p. refl) (λ st. refl) (λ st. simp append-assoc) (λ bytes at. simp add-assoc)
     (λ st f. (f .processors, (f .tasks, (f .resources, (f .clock, (f .server, (f .task, f .resource)))))))
     (λ bytes at g. record {
-      servers = each-moved serverFits serverSize bytes _ (at + serversPlace) (omega arith) (g .1 .1 .1 .1 .0);
-      tasks = each-moved taskFits taskSize bytes _ (at + tasksPlace) (omega arith) (g .1 .1 .1 .1 .1 .0);
-      resources = each-moved resourceFits resourceSize bytes _ (at + resourcesPlace) (omega arith) (g .1 .1 .1 .1 .1 .1);
+      servers = each-moved serverFits serverSize bytes _ (at + serversOffset) (omega arith) (g .1 .1 .1 .1 .0);
+      tasks = each-moved taskFits taskSize bytes _ (at + tasksOffset) (omega arith) (g .1 .1 .1 .1 .1 .0);
+      resources = each-moved resourceFits resourceSize bytes _ (at + resourcesOffset) (omega arith) (g .1 .1 .1 .1 .1 .1);
     })
     (λ bytes at g.
-    let servers = each-moved serverFits serverSize bytes (at + serversPlace) (at + 2 + 2 + 2 + 4) (omega arith) (g .servers) in
-    let tasks = each-moved taskFits taskSize bytes (at + tasksPlace) (at + 2 + 2 + 2 + 4 + 464) (omega arith) (g .tasks) in
-    let resources = each-moved resourceFits resourceSize bytes (at + resourcesPlace) (at + 2 + 2 + 2 + 4 + 464 + 736) (omega arith) (g .resources) in
+    let servers = each-moved serverFits serverSize bytes (at + serversOffset) (at + 2 + 2 + 2 + 4) (omega arith) (g .servers) in
+    let tasks = each-moved taskFits taskSize bytes (at + tasksOffset) (at + 2 + 2 + 2 + 4 + 464) (omega arith) (g .tasks) in
+    let resources = each-moved resourceFits resourceSize bytes (at + resourcesOffset) (at + 2 + 2 + 2 + 4 + 464 + 736) (omega arith) (g .resources) in
     (tt, (tt, (tt, (tt, (servers, (tasks, resources)))))))
 
 pub encoded-long : (st : State) → length (encoded st) ≡ imageSize

@@ -1,14 +1,21 @@
--- The codecs of the parts of a state: numbers of two widths, enums, and the records of a server, a task and a resource. Assumes nothing.
-use mathlib.Core.Path.{_≡_, refl, sym, ap, ap₂, _∙_}
+-- The codecs of the parts of a state: sixteen entries, enums, and the records of a server, a task and a resource. Assumes nothing.
+use mathlib.Core.Path.{_≡_, refl, sym, ap, subst, _∙_}
 use mathlib.Core.Bool.{true}
 use mathlib.Core.List.{List, append-assoc}
-use Prim.Native.Nat.{ℕ, _+_, _*_, _≤_, _/_, _%_}
+use Prim.Native.Nat.{ℕ, _+_, _*_, _<_, _≤_}
 use native.Mathlib.Nat.{add-assoc}
 use native.Mathlib.Omega.{arith}
 use lib.Dec.{ltb, eqb}
-use lib.ListN.{length}
+use lib.ListN.{length, getD, replicate, length-replicate}
+use lib.Seq.{ext-getD}
 use borrow.Author.Tests.{ltb-true, eqb-true, eqb-false, ne-eqb}
+use Rattle.laws.specs.Loops.{setTo}
 use Rattle.laws.proofs.Cases.{split, and-left, and-right, and-both}
+use Rattle.laws.proofs.Join.{join-long}
+use Rattle.laws.proofs.Set.{set-at, length-setTo}
+use Rattle.bytes.specs.Numbers.{byteAt, one, two, Fits16}
+use Rattle.bytes.proofs.Stands.{Stands, stands-part, stands-parts}
+use Rattle.bytes.proofs.Codec.{Codec, _then_, recoded, Any, two-codec, four-codec}
 use Rattle.model.specs.declared.TaskNo.{TaskNo}
 use Rattle.model.specs.declared.Phase.the-variants.{Idle, Active, Running, Recharging}
 use Rattle.model.specs.declared.Mode.the-variants.{Suspended, Ready, Waiting}
@@ -17,125 +24,127 @@ use Rattle.model.specs.declared.Owner.the-variants.{Nobody, By}
 use Rattle.model.specs.declared.Server.{Server}
 use Rattle.model.specs.declared.Task.{Task}
 use Rattle.model.specs.declared.Resource.{Resource}
-use Rattle.model.specs.State.{noServer, noTask, noResource}
+use Rattle.model.specs.State.{places, noServer, noTask, noResource}
 use Rattle.model.specs.Fresh.{blankServer, blankTask, blankResource}
-use Rattle.trace.specs.Reading.{twoBytes, fourBytes}
-use Rattle.image.specs.Layout.{byteAt}
-use Rattle.image.specs.Encoded.{one, two, four, phaseTag, modeTag, modeNumber, runsTag, runsNumber, ownerTag, ownerNumber, tagged, entries, noTaskNo, taskNoBytes, serverBytes, taskBytes, resourceBytes}
-use Rattle.image.specs.Decoded.{phaseOf, modeOf, runsOf, ownerOf, tagFits, taggedFits, serverFits, taskFits, resourceFits, taskNoIn, serverIn, taskIn, resourceIn}
-use Rattle.image.specs.Fits.{Bytes, Fits16, Fits32, FitsTaskNo, FitsServer, FitsTask, FitsResource}
-use Rattle.image.proofs.Codec.{Codec, _then_, recoded, sixteen}
+use Rattle.image.specs.declared.Tagged.{Tagged}
+use Rattle.image.specs.Encoded.{phaseTag, modeTagged, runsTagged, ownerTagged, taggedBytes, entryBytes, entries, noTaskNo, taskNoBytes, serverBytes, taskBytes, resourceBytes}
+use Rattle.image.specs.Decoded.{phaseOf, modeOf, runsOf, ownerOf, tagFits, taggedIn, taggedFits, serverFits, taskFits, resourceFits, entryIn, entriesIn, taskNoIn, serverIn, taskIn, resourceIn}
+use Rattle.image.specs.Fits.{FitsEach, FitsTaskNo, FitsServer, FitsTask, FitsResource}
 
--- any bytes
-abbrev pub Any : List ℕ → ℕ → Type 0
-Any bytes at = Unit {0}
-
-pub two-codec : Codec 2 two twoBytes Fits16 Any
-unfolding two twoBytes
-two-codec = record {
-  long = λ n. refl;
-  back = λ n bytes at fit h. omega (arith, h .0, h .1 .0);
-  good = λ n bytes at fit h. tt;
-  forth = λ bytes at all g. (omega (arith, all at, all (at + 1)), (omega (arith, all at, all (at + 1)), tt));
-}
-
-two-small : (bytes : List ℕ) (at : ℕ) → Bytes bytes → Fits16 (twoBytes bytes at)
-unfolding twoBytes
-two-small bytes at all = omega (arith, all at, all (at + 1))
-
-pub four-codec : Codec 4 four fourBytes Fits32 Any
-unfolding four fourBytes
-four-codec =
-    let halves = two-codec then two-codec in
-    record {
-      long = λ n. halves .long (n % 65536, n / 65536);
-      back = λ n bytes at fit h.
-          let e = halves .back (n % 65536, n / 65536) bytes at (omega arith, omega arith) h in
-          omega (arith, ap (λ p. p .0) e, ap (λ p. p .1) e);
-      good = λ n bytes at fit h. tt;
+-- sixteen entries
+module _
+    {A : Type 0} {size : ℕ} {put : A → List ℕ} {get : List ℕ → ℕ → A} {Fit : A → Type 0} {Good : List ℕ → ℕ → Type 0}
+    (a : Codec size put get Fit Good) (none blank : A)
+  where
+    pub sixteen
+        : Codec (size * places)
+        (entries put none)
+        (entriesIn get size blank)
+        (FitsEach Fit none)
+        (λ bytes at. (i : ℕ) → i < places → Good bytes (at + size * i))
+    unfolding entries entryBytes entriesIn entryIn
+    sixteen = record {
+      long = λ xs. join-long (entryBytes put none xs) size (λ i. a .long (getD xs i none)) places;
+      back = λ xs bytes at fit h.
+          ext-getD none (setTo places (entryIn get size bytes at) (replicate places blank)) xs
+          (length-setTo places (entryIn get size bytes at) (replicate places blank) ∙ length-replicate places blank ∙ sym (fit .long))
+          (λ i l.
+          let k : i < places = omega (arith, length-setTo places (entryIn get size bytes at) (replicate places blank), length-replicate places blank) in
+          set-at places i (entryIn get size bytes at) (replicate places blank) none k (rw length-replicate k)
+          ∙ a .back (getD xs i none) bytes (at + size * i) (fit .each i k)
+          (stands-part (entryBytes put none xs) size (λ j. a .long (getD xs j none)) places i bytes at k h));
+      good = λ xs bytes at fit h i l.
+          a .good (getD xs i none) bytes (at + size * i) (fit .each i l)
+          (stands-part (entryBytes put none xs) size (λ j. a .long (getD xs j none)) places i bytes at l h);
       forth = λ bytes at all g.
-          let low = two-small bytes at all in
-          let lows : (twoBytes bytes at + 65536 * twoBytes bytes (at + 2)) % 65536 ≡ twoBytes bytes at = omega arith in
-          let highs : (twoBytes bytes at + 65536 * twoBytes bytes (at + 2)) / 65536 ≡ twoBytes bytes (at + 2) = omega arith in
-          rw (lows, highs) (halves .forth bytes at all (tt, tt));
+          stands-parts (entryBytes put none (entriesIn get size blank bytes at)) size (λ j. a .long _) places bytes at
+          (λ i l.
+          subst (λ x. Stands (put x) bytes (at + size * i))
+          (sym (set-at places i (entryIn get size bytes at) (replicate places blank) none l (rw length-replicate l)))
+          (a .forth bytes (at + size * i) all (g i l)));
     }
 
 task-no-codec : Codec 2 taskNoBytes taskNoIn FitsTaskNo Any
 unfolding taskNoBytes
 task-no-codec =
-    recoded two-codec (λ t. t .0) (λ n. record { 0 = n }) (λ n. refl) (λ t. refl) taskNoBytes taskNoIn FitsTaskNo Any
+    recoded two-codec (λ t. t .0) (λ n. record { 0 = n }) (λ n. refl) (λ t. refl)
     (λ t. refl) (λ bytes at. refl) (λ t fit. fit) (λ bytes at g. tt) (λ bytes at g. tt)
 
 -- an enum as the number of a variant and the number that the variant holds
-record Tagging {E : Type 0} (last : ℕ) (tag number : E → ℕ) (of : ℕ → ℕ → E) : Type 0 where
-  home : (e : E) → of (tag e) (number e) ≡ e
-  known : (e : E) → tagFits last (tag e) (number e) ≡ true
-  again : (t n : ℕ) → tagFits last t n ≡ true → (tag (of t n) ≡ t) × (number (of t n) ≡ n)
+record Tagging {E : Type 0} (last : ℕ) (put : E → Tagged) (of : Tagged → E) : Type 0 where
+  home : (e : E) → of (put e) ≡ e
+  known : (e : E) → tagFits last (put e) ≡ true
+  again : (t : Tagged) → tagFits last t ≡ true → (put (of t) .tag ≡ t .tag) × (put (of t) .number ≡ t .number)
 
-module _ {E : Type 0} {last : ℕ} {tag number : E → ℕ} {of : ℕ → ℕ → E} (g : Tagging last tag number of) where
+module _ {E : Type 0} {last : ℕ} {put : E → Tagged} {of : Tagged → E} (g : Tagging last put of) where
+  told : (e : E) (bytes : List ℕ) (at : ℕ) → Fits16 (put e .number) → Stands (taggedBytes (put e)) bytes at → taggedIn bytes at ≡ put e
+  unfolding taggedBytes one two
+  told e bytes at fit h = λ i. record { tag = h .0 i; number = two-codec .back (put e .number) bytes (at + 1) fit (h .1) i }
+
   tagged-codec
       : Codec 3
-      (λ e. tagged (tag e) (number e))
-      (λ bytes at. of (byteAt bytes at) (twoBytes bytes (at + 1)))
-      (λ e. Fits16 (number e))
+      (λ e. taggedBytes (put e))
+      (λ bytes at. of (taggedIn bytes at))
+      (λ e. Fits16 (put e .number))
       (λ bytes at. taggedFits last bytes at ≡ true)
-  unfolding tagged one two taggedFits
+  unfolding taggedBytes one two taggedFits
   tagged-codec = record {
     long = λ e. refl;
-    back = λ e bytes at fit h. ap₂ of (h .0) (two-codec .back (number e) bytes (at + 1) fit (h .1)) ∙ g .home e;
-    good = λ e bytes at fit h. rw (h .0, two-codec .back (number e) bytes (at + 1) fit (h .1)) (g .known e);
+    back = λ e bytes at fit h. ap of (told e bytes at fit h) ∙ g .home e;
+    good = λ e bytes at fit h. ap (tagFits last) (told e bytes at fit h) ∙ g .known e;
     forth = λ bytes at all k.
-        let e = g .again (byteAt bytes at) (twoBytes bytes (at + 1)) k in
+        let e = g .again (taggedIn bytes at) k in
         rw (e .0, e .1)
         (refl, two-codec .forth bytes (at + 1) all tt);
   }
 
 -- the tests as facts: no variant past the last, and no number in an earlier one
-most : (last t n : ℕ) → tagFits last t n ≡ true → t ≤ last
-most last t n k =
+most : (last : ℕ) (t : Tagged) → tagFits last t ≡ true → t .tag ≤ last
+most last t k =
     split
-    (eqb t last)
-    (λ y. omega (arith, eqb-true t last y))
-    (λ e. omega (arith, ltb-true t last (and-left (ltb t last) (eqb n 0) (rw e at k))))
+    (eqb (t .tag) last)
+    (λ y. omega (arith, eqb-true (t .tag) last y))
+    (λ e. omega (arith, ltb-true (t .tag) last (and-left (ltb (t .tag) last) (eqb (t .number) 0) (rw e at k))))
 
-none : (last t n : ℕ) → tagFits last t n ≡ true → (t ≡ last → ⊥) → 0 ≡ n
-none last t n k e = sym (eqb-true n 0 (and-right (ltb t last) (eqb n 0) (rw (ne-eqb t last e) at k)))
+none : (last : ℕ) (t : Tagged) → tagFits last t ≡ true → (t .tag ≡ last → ⊥) → 0 ≡ t .number
+none last t k e =
+    sym (eqb-true (t .number) 0 (and-right (ltb (t .tag) last) (eqb (t .number) 0) (rw (ne-eqb (t .tag) last e) at k)))
 
-mode-tagging : Tagging 2 modeTag modeNumber modeOf
+mode-tagging : Tagging 2 modeTagged modeOf
 mode-tagging = record {
   home = λ e. elim e [ Suspended ↦ refl | Ready ↦ refl | Waiting r ↦ refl ];
   known = λ e. elim e [ Suspended ↦ refl | Ready ↦ refl | Waiting r ↦ refl ];
-  again = λ t n k.
+  again = λ t k.
       split
-      (eqb t 0)
-      (λ y. let e = eqb-true t 0 y in rw y (sym e, none 2 t n k (λ z. omega arith)))
+      (eqb (t .tag) 0)
+      (λ y. let e = eqb-true (t .tag) 0 y in rw y (sym e, none 2 t k (λ z. omega arith)))
       (λ a.
       split
-      (eqb t 1)
-      (λ y. let e = eqb-true t 1 y in rw (a, y) (sym e, none 2 t n k (λ z. omega arith)))
-      (λ b. rw (a, b) (omega (arith, eqb-false t 0 a, eqb-false t 1 b, most 2 t n k), refl)));
+      (eqb (t .tag) 1)
+      (λ y. let e = eqb-true (t .tag) 1 y in rw (a, y) (sym e, none 2 t k (λ z. omega arith)))
+      (λ b. rw (a, b) (omega (arith, eqb-false (t .tag) 0 a, eqb-false (t .tag) 1 b, most 2 t k), refl)));
 }
 
-runs-tagging : Tagging 1 runsTag runsNumber runsOf
+runs-tagging : Tagging 1 runsTagged runsOf
 runs-tagging = record {
   home = λ e. elim e [ Nowhere ↦ refl | In s ↦ refl ];
   known = λ e. elim e [ Nowhere ↦ refl | In s ↦ refl ];
-  again = λ t n k.
+  again = λ t k.
       split
-      (eqb t 0)
-      (λ y. let e = eqb-true t 0 y in rw y (sym e, none 1 t n k (λ z. omega arith)))
-      (λ a. rw a (omega (arith, eqb-false t 0 a, most 1 t n k), refl));
+      (eqb (t .tag) 0)
+      (λ y. let e = eqb-true (t .tag) 0 y in rw y (sym e, none 1 t k (λ z. omega arith)))
+      (λ a. rw a (omega (arith, eqb-false (t .tag) 0 a, most 1 t k), refl));
 }
 
-owner-tagging : Tagging 1 ownerTag ownerNumber ownerOf
+owner-tagging : Tagging 1 ownerTagged ownerOf
 owner-tagging = record {
   home = λ e. elim e [ Nobody ↦ refl | By t ↦ refl ];
   known = λ e. elim e [ Nobody ↦ refl | By t ↦ refl ];
-  again = λ t n k.
+  again = λ t k.
       split
-      (eqb t 0)
-      (λ y. let e = eqb-true t 0 y in rw y (sym e, none 1 t n k (λ z. omega arith)))
-      (λ a. rw a (omega (arith, eqb-false t 0 a, most 1 t n k), refl));
+      (eqb (t .tag) 0)
+      (λ y. let e = eqb-true (t .tag) 0 y in rw y (sym e, none 1 t k (λ z. omega arith)))
+      (λ a. rw a (omega (arith, eqb-false (t .tag) 0 a, most 1 t k), refl));
 }
 
 phase-again : (b : ℕ) → ltb b 4 ≡ true → phaseTag (phaseOf b) ≡ b
@@ -170,14 +179,7 @@ server-codec =
       lent = p .1 .1 .1 .1 .1 .1 .0;
       spin = p .1 .1 .1 .1 .1 .1 .1;
     })
-    (λ p. refl)
-    (λ s. refl)
-    serverBytes
-    serverIn
-    FitsServer
-    (λ bytes at. serverFits bytes at ≡ true)
-    (λ s. simp append-assoc)
-    (λ bytes at. simp add-assoc)
+    (λ p. refl) (λ s. refl) (λ s. simp append-assoc) (λ bytes at. simp add-assoc)
     (λ s f. (tt, (f .budget, (f .deadline, (f .quota, (f .period, (f .own, (f .lent, f .spin))))))))
     (λ bytes at g. g .0)
     (λ bytes at g. (g, (tt, (tt, (tt, (tt, (tt, (tt, tt))))))))
@@ -196,14 +198,7 @@ task-codec =
       executed = p .1 .1 .1 .1 .0;
       held = p .1 .1 .1 .1 .1;
     })
-    (λ p. refl)
-    (λ t. refl)
-    taskBytes
-    taskIn
-    FitsTask
-    (λ bytes at. taskFits bytes at ≡ true)
-    (λ t. simp append-assoc)
-    (λ bytes at. simp add-assoc)
+    (λ p. refl) (λ t. refl) (λ t. simp append-assoc) (λ bytes at. simp add-assoc)
     (λ t f. (f .mode, (f .runs, (f .declared, (f .depth, (f .executed, f .held))))))
     (λ bytes at g. and-both _ _ (g .0) (g .1 .0))
     (λ bytes at g. (and-left _ _ g, (and-right (taggedFits 2 bytes at) _ g, (tt, (tt, (tt, λ i l. tt))))))
@@ -215,22 +210,15 @@ resource-codec =
     (tagged-codec owner-tagging then two-codec then sixteen task-no-codec noTaskNo noTaskNo)
     (λ r. (r .owner, (r .waiting, r .queue)))
     (λ p. record { owner = p .0; waiting = p .1 .0; queue = p .1 .1 })
-    (λ p. refl)
-    (λ r. refl)
-    resourceBytes
-    resourceIn
-    FitsResource
-    (λ bytes at. resourceFits bytes at ≡ true)
-    (λ r. simp append-assoc)
-    (λ bytes at. simp add-assoc)
+    (λ p. refl) (λ r. refl) (λ r. simp append-assoc) (λ bytes at. simp add-assoc)
     (λ r f. (f .owner, (f .waiting, f .queue)))
     (λ bytes at g. g .0)
     (λ bytes at g. (g, (tt, λ i l. tt)))
 
 -- lengths of parts, for the code that writes them
-pub tagged-long : (tag number : ℕ) → length (tagged tag number) ≡ 3
-unfolding tagged one two
-tagged-long tag number = refl
+pub tagged-long : (t : Tagged) → length (taggedBytes t) ≡ 3
+unfolding taggedBytes one two
+tagged-long t = refl
 
 pub held-long : (held : List ℕ) → length (entries two 0 held) ≡ 32
 held-long held = sixteen two-codec 0 0 .long held

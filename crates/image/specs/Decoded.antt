@@ -8,6 +8,7 @@ use lib.Dec.{ltb, eqb}
 use lib.ListN.{length, replicate}
 use Rattle.laws.specs.Tests.{if_then_else_}
 use Rattle.laws.specs.Loops.{allTo, setTo}
+use Rattle.bytes.specs.Numbers.{byteAt, twoBytes, fourBytes}
 use Rattle.model.specs.declared.TaskNo.{TaskNo}
 use Rattle.model.specs.declared.Phase.{Phase}
 use Rattle.model.specs.declared.Phase.the-variants.{Idle, Active, Running, Recharging}
@@ -23,33 +24,34 @@ use Rattle.model.specs.declared.Resource.{Resource}
 use Rattle.model.specs.declared.State.{State}
 use Rattle.model.specs.State.{places}
 use Rattle.model.specs.Fresh.{blankServer, blankTask, blankResource, unusable}
-use Rattle.model.specs.Said.{Word, ok, refused}
-use Rattle.trace.specs.Reading.{twoBytes, fourBytes}
-use Rattle.image.specs.declared.ImageAnswer.{ImageAnswer}
+use Rattle.image.specs.declared.Tagged.{Tagged}
 use Rattle.image.specs.declared.ImageAnswer.the-variants.{Held, Refused}
 use Rattle.image.specs.declared.Imaged.{Imaged}
-use Rattle.image.specs.Layout.{serverSize, taskSize, resourceSize, serversPlace, tasksPlace, resourcesPlace, imageSize, byteAt}
+use Rattle.image.specs.Layout.{serverSize, taskSize, resourceSize, serversOffset, tasksOffset, resourcesOffset, imageSize}
 use Rattle.image.specs.Encoded.{noTaskNo}
 
 -- the variant of a number, the last one for any number past it
 abbrev pub phaseOf : ℕ → Phase
 phaseOf tag = if eqb tag 0 then Idle else if eqb tag 1 then Active else if eqb tag 2 then Running else Recharging
 
-abbrev pub modeOf : ℕ → ℕ → Mode
-modeOf tag number = if eqb tag 0 then Suspended else if eqb tag 1 then Ready else Waiting number
+abbrev pub modeOf : Tagged → Mode
+modeOf t = if eqb (t .tag) 0 then Suspended else if eqb (t .tag) 1 then Ready else Waiting (t .number)
 
-abbrev pub runsOf : ℕ → ℕ → Runs
-runsOf tag number = if eqb tag 0 then Nowhere else In (record { 0 = number })
+abbrev pub runsOf : Tagged → Runs
+runsOf t = if eqb (t .tag) 0 then Nowhere else In (record { 0 = t .number })
 
-abbrev pub ownerOf : ℕ → ℕ → Owner
-ownerOf tag number = if eqb tag 0 then Nobody else By (record { 0 = number })
+abbrev pub ownerOf : Tagged → Owner
+ownerOf t = if eqb (t .tag) 0 then Nobody else By (record { 0 = t .number })
 
 -- the last variant, which holds a number, or an earlier one, which holds none
-abbrev pub tagFits : ℕ → ℕ → ℕ → Bool
-tagFits last tag number = eqb tag last || (ltb tag last && eqb number 0)
+abbrev pub tagFits : ℕ → Tagged → Bool
+tagFits last t = eqb (t .tag) last || (ltb (t .tag) last && eqb (t .number) 0)
+
+abbrev pub taggedIn : List ℕ → ℕ → Tagged
+taggedIn bytes at = record { tag = byteAt bytes at; number = twoBytes bytes (at + 1) }
 
 unfoldable pub taggedFits : ℕ → List ℕ → ℕ → Bool
-taggedFits last bytes at = tagFits last (byteAt bytes at) (twoBytes bytes (at + 1))
+taggedFits last bytes at = tagFits last (taggedIn bytes at)
 
 unfoldable pub serverFits : List ℕ → ℕ → Bool
 serverFits bytes at = ltb (byteAt bytes at) 4
@@ -62,13 +64,13 @@ resourceFits bytes at = taggedFits 1 bytes at
 
 unfoldable pub entriesFit : List ℕ → ℕ → Bool
 entriesFit bytes i =
-    serverFits bytes (serversPlace + serverSize * i)
-    && (taskFits bytes (tasksPlace + taskSize * i) && resourceFits bytes (resourcesPlace + resourceSize * i))
+    serverFits bytes (serversOffset + serverSize * i)
+    && (taskFits bytes (tasksOffset + taskSize * i) && resourceFits bytes (resourcesOffset + resourceSize * i))
 
 unfoldable pub isImage : List ℕ → Bool
 isImage bytes = eqb (length bytes) imageSize && allTo places (entriesFit bytes)
 
--- sixteen entries of one size from a place on
+-- sixteen entries of one size from an offset on
 unfoldable pub entryIn : {A : Type 0} → (List ℕ → ℕ → A) → ℕ → List ℕ → ℕ → ℕ → A
 entryIn get size bytes at i = get bytes (at + size * i)
 
@@ -92,8 +94,8 @@ serverIn bytes at = record {
 
 unfoldable pub taskIn : List ℕ → ℕ → Task
 taskIn bytes at = record {
-  mode = modeOf (byteAt bytes at) (twoBytes bytes (at + 1));
-  runs = runsOf (byteAt bytes (at + 3)) (twoBytes bytes (at + 4));
+  mode = modeOf (taggedIn bytes at);
+  runs = runsOf (taggedIn bytes (at + 3));
   declared = twoBytes bytes (at + 6);
   depth = twoBytes bytes (at + 8);
   executed = fourBytes bytes (at + 10);
@@ -102,7 +104,7 @@ taskIn bytes at = record {
 
 unfoldable pub resourceIn : List ℕ → ℕ → Resource
 resourceIn bytes at = record {
-  owner = ownerOf (byteAt bytes at) (twoBytes bytes (at + 1));
+  owner = ownerOf (taggedIn bytes at);
   waiting = twoBytes bytes (at + 3);
   queue = entriesIn taskNoIn 2 noTaskNo bytes (at + 5);
 }
@@ -113,9 +115,9 @@ stateIn bytes = record {
   tasks = twoBytes bytes 2;
   resources = twoBytes bytes 4;
   clock = fourBytes bytes 6;
-  server = entriesIn serverIn serverSize blankServer bytes serversPlace;
-  task = entriesIn taskIn taskSize blankTask bytes tasksPlace;
-  resource = entriesIn resourceIn resourceSize blankResource bytes resourcesPlace;
+  server = entriesIn serverIn serverSize blankServer bytes serversOffset;
+  task = entriesIn taskIn taskSize blankTask bytes tasksOffset;
+  resource = entriesIn resourceIn resourceSize blankResource bytes resourcesOffset;
 }
 
 unfoldable pub decoded : List ℕ → Option State
@@ -125,8 +127,3 @@ decoded bytes = if isImage bytes then some (stateIn bytes) else none
 abbrev pub imagedBy : Option State → Imaged
 imagedBy none = record { answer = Refused 1; state = unusable }
 imagedBy (some st) = record { answer = Held; state = st }
-
--- the answer in document 01's words: a state that is there is told as `ok` and 0
-abbrev pub saidImage : ImageAnswer → Word × ℕ
-saidImage Held = (ok, 0)
-saidImage (Refused n) = (refused, n)

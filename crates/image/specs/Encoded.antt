@@ -1,11 +1,12 @@
 -- The image of a state, field by field. Numbers are little-endian; an enum is the number of its variant, and then the number that the variant
 -- holds, which is 0 where it holds none. Assumes nothing.
-use mathlib.Core.List.{List, [], _∷_, _++_}
-use Prim.Native.Nat.{ℕ, _/_, _%_}
+use mathlib.Core.List.{List, _++_}
+use Prim.Native.Nat.{ℕ}
 use lib.Dec.{eqb}
 use lib.ListN.{length, getD}
 use Rattle.laws.specs.Tests.{if_then_else_}
 use Rattle.laws.specs.Loops.{joinTo}
+use Rattle.bytes.specs.Numbers.{one, two, four}
 use Rattle.model.specs.declared.TaskNo.{TaskNo}
 use Rattle.model.specs.declared.Phase.{Phase}
 use Rattle.model.specs.declared.Phase.the-variants.{Idle, Active, Running, Recharging}
@@ -20,16 +21,8 @@ use Rattle.model.specs.declared.Task.{Task}
 use Rattle.model.specs.declared.Resource.{Resource}
 use Rattle.model.specs.declared.State.{State}
 use Rattle.model.specs.State.{places, noServer, noTask, noResource}
+use Rattle.image.specs.declared.Tagged.{Tagged}
 use Rattle.image.specs.Layout.{imageSize}
-
-unfoldable pub one : ℕ → List ℕ
-one n = n ∷ []
-
-unfoldable pub two : ℕ → List ℕ
-two n = n % 256 ∷ n / 256 ∷ []
-
-unfoldable pub four : ℕ → List ℕ
-four n = two (n % 65536) ++ two (n / 65536)
 
 abbrev pub phaseTag : Phase → ℕ
 phaseTag Idle = 0
@@ -37,34 +30,21 @@ phaseTag Active = 1
 phaseTag Running = 2
 phaseTag Recharging = 3
 
-abbrev pub modeTag : Mode → ℕ
-modeTag Suspended = 0
-modeTag Ready = 1
-modeTag (Waiting r) = 2
+abbrev pub modeTagged : Mode → Tagged
+modeTagged Suspended = record { tag = 0; number = 0 }
+modeTagged Ready = record { tag = 1; number = 0 }
+modeTagged (Waiting r) = record { tag = 2; number = r }
 
-abbrev pub modeNumber : Mode → ℕ
-modeNumber Suspended = 0
-modeNumber Ready = 0
-modeNumber (Waiting r) = r
+abbrev pub runsTagged : Runs → Tagged
+runsTagged Nowhere = record { tag = 0; number = 0 }
+runsTagged (In s) = record { tag = 1; number = s .0 }
 
-abbrev pub runsTag : Runs → ℕ
-runsTag Nowhere = 0
-runsTag (In s) = 1
+abbrev pub ownerTagged : Owner → Tagged
+ownerTagged Nobody = record { tag = 0; number = 0 }
+ownerTagged (By t) = record { tag = 1; number = t .0 }
 
-abbrev pub runsNumber : Runs → ℕ
-runsNumber Nowhere = 0
-runsNumber (In s) = s .0
-
-abbrev pub ownerTag : Owner → ℕ
-ownerTag Nobody = 0
-ownerTag (By t) = 1
-
-abbrev pub ownerNumber : Owner → ℕ
-ownerNumber Nobody = 0
-ownerNumber (By t) = t .0
-
-unfoldable pub tagged : ℕ → ℕ → List ℕ
-tagged tag number = one tag ++ two number
+unfoldable pub taggedBytes : Tagged → List ℕ
+taggedBytes t = one (t .tag) ++ two (t .number)
 
 -- sixteen entries one after the other
 unfoldable pub entryBytes : {A : Type 0} → (A → List ℕ) → A → List A → ℕ → List ℕ
@@ -92,8 +72,8 @@ serverBytes s =
 
 unfoldable pub taskBytes : Task → List ℕ
 taskBytes t =
-    tagged (modeTag (t .mode)) (modeNumber (t .mode))
-    ++ tagged (runsTag (t .runs)) (runsNumber (t .runs))
+    taggedBytes (modeTagged (t .mode))
+    ++ taggedBytes (runsTagged (t .runs))
     ++ two (t .declared)
     ++ two (t .depth)
     ++ four (t .executed)
@@ -101,7 +81,7 @@ taskBytes t =
 
 unfoldable pub resourceBytes : Resource → List ℕ
 resourceBytes r =
-    tagged (ownerTag (r .owner)) (ownerNumber (r .owner))
+    taggedBytes (ownerTagged (r .owner))
     ++ two (r .waiting)
     ++ entries taskNoBytes noTaskNo (r .queue)
 

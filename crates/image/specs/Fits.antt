@@ -1,26 +1,17 @@
--- What the types of the code say of a state, and of the bytes of a slice: each number fits its width, and each array has its sixteen places. antt
--- sees neither in a list of numbers; of any value of the code both hold. Assumes nothing.
+-- What the types of the code say of a state: each number fits its width, and each array has its sixteen places. antt sees neither in a list of
+-- numbers; of any value of the code both hold. Assumes nothing.
 use mathlib.Core.Path.{_≡_}
 use mathlib.Core.List.{List}
-use Prim.Native.Nat.{ℕ, _<_, _^_}
+use Prim.Native.Nat.{ℕ, _<_}
 use lib.ListN.{length, getD}
+use Rattle.bytes.specs.Numbers.{Fits16, Fits32}
 use Rattle.model.specs.declared.TaskNo.{TaskNo}
 use Rattle.model.specs.declared.Server.{Server}
 use Rattle.model.specs.declared.Task.{Task}
 use Rattle.model.specs.declared.Resource.{Resource}
 use Rattle.model.specs.declared.State.{State}
 use Rattle.model.specs.State.{places, noServer, noTask, noResource}
-use Rattle.image.specs.Layout.{byteAt}
-use Rattle.image.specs.Encoded.{modeNumber, runsNumber, ownerNumber, noTaskNo}
-
-abbrev pub Bytes : List ℕ → Type 0
-Bytes bytes = (i : ℕ) → byteAt bytes i < 2 ^ 8
-
-abbrev pub Fits16 : ℕ → Type 0
-Fits16 n = n < 2 ^ 16
-
-abbrev pub Fits32 : ℕ → Type 0
-Fits32 n = n < 2 ^ 32
+use Rattle.image.specs.Encoded.{modeTagged, runsTagged, ownerTagged, noTaskNo}
 
 abbrev pub FitsTaskNo : TaskNo → Type 0
 FitsTaskNo t = Fits16 (t .0)
@@ -40,15 +31,15 @@ pub record FitsServer (s : Server) : Type 0 where
   pub spin : Fits32 (s .spin)
 
 pub record FitsTask (t : Task) : Type 0 where
-  pub mode : Fits16 (modeNumber (t .mode))
-  pub runs : Fits16 (runsNumber (t .runs))
+  pub mode : Fits16 (modeTagged (t .mode) .number)
+  pub runs : Fits16 (runsTagged (t .runs) .number)
   pub declared : Fits16 (t .declared)
   pub depth : Fits16 (t .depth)
   pub executed : Fits32 (t .executed)
   pub held : FitsEach Fits16 0 (t .held)
 
 pub record FitsResource (r : Resource) : Type 0 where
-  pub owner : Fits16 (ownerNumber (r .owner))
+  pub owner : Fits16 (ownerTagged (r .owner) .number)
   pub waiting : Fits16 (r .waiting)
   pub queue : FitsEach FitsTaskNo noTaskNo (r .queue)
 

@@ -1,8 +1,5 @@
--- Where the parts of a state stand in its image: fixed places and sizes, in bytes, as docs/STATE.md has them in a table. Assumes nothing.
-use mathlib.Core.List.{List}
+-- Where the parts of a state stand in its image: fixed offsets and sizes, in bytes, as docs/STATE.md has them in a table. Assumes nothing.
 use Prim.Native.Nat.{ℕ, _+_, _*_}
-use lib.ListN.{getD}
-use lib.Seq.{sets}
 use Rattle.model.specs.State.{places}
 
 -- processors, tasks, resources, clock
@@ -21,21 +18,14 @@ taskSize = 46
 abbrev pub resourceSize : ℕ
 resourceSize = 37
 
-abbrev pub serversPlace : ℕ
-serversPlace = headerSize
+abbrev pub serversOffset : ℕ
+serversOffset = headerSize
 
-abbrev pub tasksPlace : ℕ
-tasksPlace = serversPlace + serverSize * places
+abbrev pub tasksOffset : ℕ
+tasksOffset = serversOffset + serverSize * places
 
-abbrev pub resourcesPlace : ℕ
-resourcesPlace = tasksPlace + taskSize * places
+abbrev pub resourcesOffset : ℕ
+resourcesOffset = tasksOffset + taskSize * places
 
 abbrev pub imageSize : ℕ
-imageSize = resourcesPlace + resourceSize * places
-
-abbrev pub byteAt : List ℕ → ℕ → ℕ
-byteAt bytes at = getD bytes at 0
-
--- bytes with a part stored from a place on
-unfoldable pub stored : List ℕ → ℕ → List ℕ → List ℕ
-stored bytes at part = sets bytes at part
+imageSize = resourcesOffset + resourceSize * places

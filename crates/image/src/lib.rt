@@ -14,7 +14,12 @@ pub struct Imaged {
     pub state: State,
 }
 
-pub mod numbers;
+// An enum as the number of its variant and the number that the variant holds, 0 where it holds none.
+pub struct Tagged {
+    pub tag: u8,
+    pub number: u16,
+}
+
 pub mod reading;
 pub mod sizes;
 mod tags;

@@ -1,32 +1,33 @@
-// A state read out of lent bytes. Each function of an entry is given a place at which the entry lies whole in the slice; `read` assumes nothing.
+// A state read out of lent bytes. Each function of an entry is given an offset at which the entry lies whole in the slice; `read` assumes nothing.
 ghost use mathlib.Core.Path.{_≡_};
 ghost use Prim.Native.Nat.{_+_, _≤_};
 ghost use lib.ListN.{length};
-ghost use Rattle.trace.specs.Reading.{twoBytes};
+ghost use Rattle.bytes.specs.Numbers.{twoBytes};
 ghost use Rattle.image.specs.Layout.{imageSize};
 ghost use Rattle.image.specs.Encoded.{noTaskNo};
 ghost use Rattle.image.specs.Decoded.{entriesIn, taskNoIn, serverIn, taskIn, resourceIn, stateIn, decoded, imagedBy};
 use crate::ImageAnswer;
 use crate::Imaged;
 use crate::sizes::RESOURCE_SIZE;
-use crate::sizes::RESOURCES_PLACE;
+use crate::sizes::RESOURCES_OFFSET;
 use crate::sizes::SERVER_SIZE;
-use crate::sizes::SERVERS_PLACE;
+use crate::sizes::SERVERS_OFFSET;
 use crate::sizes::TASK_SIZE;
-use crate::sizes::TASKS_PLACE;
+use crate::sizes::TASKS_OFFSET;
 use crate::tags::mode_of;
 use crate::tags::owner_of;
 use crate::tags::phase_of;
 use crate::tags::runs_of;
+use crate::tags::tagged_in;
 use crate::testing::is_image;
+use bytes::numbers::four_bytes;
+use bytes::numbers::two_bytes;
 use model::Resource;
 use model::Server;
 use model::State;
 use model::Task;
 use model::TaskNo;
 use model::blank::unusable_state;
-use trace::numbers::four_bytes;
-use trace::numbers::two_bytes;
 
 fn server_in(bytes: &[u8], at: usize) -> Server
     requires { ⌜ at + 29 ≤ length (now bytes) ⌝ }
@@ -68,10 +69,8 @@ fn task_in(bytes: &[u8], at: usize) -> Task
     requires { ⌜ at + 46 ≤ length (now bytes) ⌝ }
     ensures { λ r. ⌜ r ≡ taskIn (now (bytes .entry)) at ⌝ }
 {
-    let mode_tag = bytes[at];
-    let mode = mode_of(mode_tag, two_bytes(bytes, at + 1));
-    let runs_tag = bytes[at + 3];
-    let runs = runs_of(runs_tag, two_bytes(bytes, at + 4));
+    let mode = mode_of(tagged_in(bytes, at));
+    let runs = runs_of(tagged_in(bytes, at + 3));
     let declared = two_bytes(bytes, at + 6);
     let depth = two_bytes(bytes, at + 8);
     let executed = four_bytes(bytes, at + 10);
@@ -102,8 +101,7 @@ fn resource_in(bytes: &[u8], at: usize) -> Resource
     requires { ⌜ at + 37 ≤ length (now bytes) ⌝ }
     ensures { λ r. ⌜ r ≡ resourceIn (now (bytes .entry)) at ⌝ }
 {
-    let tag = bytes[at];
-    let owner = owner_of(tag, two_bytes(bytes, at + 1));
+    let owner = owner_of(tagged_in(bytes, at));
     let waiting = two_bytes(bytes, at + 3);
     let queue = queue_in(bytes, at + 5);
     Resource {
@@ -122,9 +120,9 @@ fn state_in(bytes: &[u8]) -> State
     let mut task = blank.task;
     let mut resource = blank.resource;
     for i in 0..16usize {
-        server[i] = server_in(bytes, SERVERS_PLACE + SERVER_SIZE * i);
-        task[i] = task_in(bytes, TASKS_PLACE + TASK_SIZE * i);
-        resource[i] = resource_in(bytes, RESOURCES_PLACE + RESOURCE_SIZE * i);
+        server[i] = server_in(bytes, SERVERS_OFFSET + SERVER_SIZE * i);
+        task[i] = task_in(bytes, TASKS_OFFSET + TASK_SIZE * i);
+        resource[i] = resource_in(bytes, RESOURCES_OFFSET + RESOURCE_SIZE * i);
     }
     let processors = two_bytes(bytes, 0);
     let tasks = two_bytes(bytes, 2);

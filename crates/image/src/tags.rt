@@ -1,7 +1,12 @@
-// Enums as the number of their variant and the number that the variant holds, both ways. Assumes nothing.
+// Enums as the number of their variant and the number that the variant holds, both ways. `tagged_in` is given an offset at which the two lie whole in
+// the slice.
 ghost use mathlib.Core.Path.{_≡_};
-ghost use Rattle.image.specs.Encoded.{phaseTag, modeTag, modeNumber, runsTag, runsNumber, ownerTag, ownerNumber};
-ghost use Rattle.image.specs.Decoded.{phaseOf, modeOf, runsOf, ownerOf, tagFits};
+ghost use Prim.Native.Nat.{_+_, _≤_};
+ghost use lib.ListN.{length};
+ghost use Rattle.image.specs.Encoded.{phaseTag, modeTagged, runsTagged, ownerTagged};
+ghost use Rattle.image.specs.Decoded.{phaseOf, modeOf, runsOf, ownerOf, taggedIn, tagFits};
+use crate::Tagged;
+use bytes::numbers::two_bytes;
 use model::Mode;
 use model::Owner;
 use model::Phase;
@@ -20,6 +25,40 @@ pub fn phase_tag(p: Phase) -> u8
     }
 }
 
+pub fn mode_tagged(m: Mode) -> Tagged
+    ensures { λ r. ⌜ r ≡ modeTagged m ⌝ }
+{
+    match m {
+        Mode::Suspended => Tagged { tag: 0, number: 0 },
+        Mode::Ready => Tagged { tag: 1, number: 0 },
+        Mode::Waiting(n) => Tagged { tag: 2, number: n },
+    }
+}
+
+pub fn runs_tagged(x: Runs) -> Tagged
+    ensures { λ r. ⌜ r ≡ runsTagged x ⌝ }
+{
+    match x {
+        Runs::Nowhere => Tagged { tag: 0, number: 0 },
+        Runs::In(s) => Tagged {
+            tag: 1,
+            number: s.0,
+        },
+    }
+}
+
+pub fn owner_tagged(x: Owner) -> Tagged
+    ensures { λ r. ⌜ r ≡ ownerTagged x ⌝ }
+{
+    match x {
+        Owner::Nobody => Tagged { tag: 0, number: 0 },
+        Owner::By(t) => Tagged {
+            tag: 1,
+            number: t.0,
+        },
+    }
+}
+
 pub fn phase_of(tag: u8) -> Phase
     ensures { λ r. ⌜ r ≡ phaseOf tag ⌝ }
 {
@@ -31,96 +70,52 @@ pub fn phase_of(tag: u8) -> Phase
     }
 }
 
-pub fn mode_tag(m: Mode) -> u8
-    ensures { λ r. ⌜ r ≡ modeTag m ⌝ }
+pub fn mode_of(t: Tagged) -> Mode
+    ensures { λ r. ⌜ r ≡ modeOf t ⌝ }
 {
-    match m {
-        Mode::Suspended => 0,
-        Mode::Ready => 1,
-        Mode::Waiting(_) => 2,
-    }
-}
-
-pub fn mode_number(m: Mode) -> u16
-    ensures { λ r. ⌜ r ≡ modeNumber m ⌝ }
-{
-    match m {
-        Mode::Suspended => 0,
-        Mode::Ready => 0,
-        Mode::Waiting(n) => n,
-    }
-}
-
-pub fn mode_of(tag: u8, number: u16) -> Mode
-    ensures { λ r. ⌜ r ≡ modeOf tag number ⌝ }
-{
+    let tag = t.tag;
     match tag {
         0 => Mode::Suspended,
         1 => Mode::Ready,
-        _ => Mode::Waiting(number),
+        _ => Mode::Waiting(t.number),
     }
 }
 
-pub fn runs_tag(x: Runs) -> u8
-    ensures { λ r. ⌜ r ≡ runsTag x ⌝ }
+pub fn runs_of(t: Tagged) -> Runs
+    ensures { λ r. ⌜ r ≡ runsOf t ⌝ }
 {
-    match x {
-        Runs::Nowhere => 0,
-        Runs::In(_) => 1,
-    }
-}
-
-pub fn runs_number(x: Runs) -> u16
-    ensures { λ r. ⌜ r ≡ runsNumber x ⌝ }
-{
-    match x {
-        Runs::Nowhere => 0,
-        Runs::In(s) => s.0,
-    }
-}
-
-pub fn runs_of(tag: u8, number: u16) -> Runs
-    ensures { λ r. ⌜ r ≡ runsOf tag number ⌝ }
-{
+    let tag = t.tag;
     match tag {
         0 => Runs::Nowhere,
-        _ => Runs::In(ServerNo(number)),
+        _ => Runs::In(ServerNo(t.number)),
     }
 }
 
-pub fn owner_tag(x: Owner) -> u8
-    ensures { λ r. ⌜ r ≡ ownerTag x ⌝ }
+pub fn owner_of(t: Tagged) -> Owner
+    ensures { λ r. ⌜ r ≡ ownerOf t ⌝ }
 {
-    match x {
-        Owner::Nobody => 0,
-        Owner::By(_) => 1,
-    }
-}
-
-pub fn owner_number(x: Owner) -> u16
-    ensures { λ r. ⌜ r ≡ ownerNumber x ⌝ }
-{
-    match x {
-        Owner::Nobody => 0,
-        Owner::By(t) => t.0,
-    }
-}
-
-pub fn owner_of(tag: u8, number: u16) -> Owner
-    ensures { λ r. ⌜ r ≡ ownerOf tag number ⌝ }
-{
+    let tag = t.tag;
     match tag {
         0 => Owner::Nobody,
-        _ => Owner::By(TaskNo(number)),
+        _ => Owner::By(TaskNo(t.number)),
     }
 }
 
-// Whether the tag is the last variant's, or an earlier one's and the number 0.
-pub fn tag_fits(last: u8, tag: u8, number: u16) -> bool
-    ensures { λ r. ⌜ r ≡ tagFits last tag number ⌝ }
+pub fn tagged_in(bytes: &[u8], at: usize) -> Tagged
+    requires { ⌜ at + 3 ≤ length (now bytes) ⌝ }
+    ensures { λ r. ⌜ r ≡ taggedIn (now (bytes .entry)) at ⌝ }
 {
-    if tag == last {
+    let tag = bytes[at];
+    let number = two_bytes(bytes, at + 1);
+    Tagged { tag, number }
+}
+
+// Whether the variant is the last, or an earlier one and the number 0.
+pub fn tag_fits(last: u8, t: Tagged) -> bool
+    ensures { λ r. ⌜ r ≡ tagFits last t ⌝ }
+{
+    if t.tag == last {
         return true;
     }
-    if tag < last { number == 0 } else { false }
+    if t.tag < last { t.number == 0 } else { false }
 }

@@ -1,4 +1,4 @@
-// Which bytes are an image. Each test of an entry is given a place at which the entry lies whole in the slice.
+// Which bytes are an image. Each test of an entry is given an offset at which the entry lies whole in the slice.
 ghost use mathlib.Core.Path.{_≡_};
 ghost use Prim.Native.Nat.{_+_, _<_, _≤_};
 ghost use lib.ListN.{length};
@@ -6,21 +6,19 @@ ghost use Rattle.image.specs.Layout.{imageSize};
 ghost use Rattle.image.specs.Decoded.{taggedFits, serverFits, taskFits, resourceFits, entriesFit, isImage};
 use crate::sizes::IMAGE_SIZE;
 use crate::sizes::RESOURCE_SIZE;
-use crate::sizes::RESOURCES_PLACE;
+use crate::sizes::RESOURCES_OFFSET;
 use crate::sizes::SERVER_SIZE;
-use crate::sizes::SERVERS_PLACE;
+use crate::sizes::SERVERS_OFFSET;
 use crate::sizes::TASK_SIZE;
-use crate::sizes::TASKS_PLACE;
+use crate::sizes::TASKS_OFFSET;
 use crate::tags::tag_fits;
-use trace::numbers::two_bytes;
+use crate::tags::tagged_in;
 
 fn tagged_fits(last: u8, bytes: &[u8], at: usize) -> bool
     requires { ⌜ at + 3 ≤ length (now bytes) ⌝ }
     ensures { λ r. ⌜ r ≡ taggedFits last (now (bytes .entry)) at ⌝ }
 {
-    let tag = bytes[at];
-    let number = two_bytes(bytes, at + 1);
-    tag_fits(last, tag, number)
+    tag_fits(last, tagged_in(bytes, at))
 }
 
 fn server_fits(bytes: &[u8], at: usize) -> bool
@@ -53,9 +51,9 @@ fn entries_fit(bytes: &[u8], i: usize) -> bool
     requires { ⌜ (length (now bytes) ≡ imageSize) × (i < 16) ⌝ }
     ensures { λ r. ⌜ r ≡ entriesFit (now (bytes .entry)) i ⌝ }
 {
-    if server_fits(bytes, SERVERS_PLACE + SERVER_SIZE * i) {
-        if task_fits(bytes, TASKS_PLACE + TASK_SIZE * i) {
-            resource_fits(bytes, RESOURCES_PLACE + RESOURCE_SIZE * i)
+    if server_fits(bytes, SERVERS_OFFSET + SERVER_SIZE * i) {
+        if task_fits(bytes, TASKS_OFFSET + TASK_SIZE * i) {
+            resource_fits(bytes, RESOURCES_OFFSET + RESOURCE_SIZE * i)
         } else {
             false
         }

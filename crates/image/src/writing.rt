@@ -1,40 +1,40 @@
-// A state written into lent bytes. Each function of an entry is given a place at which the entry lies whole in the slice; `write` assumes nothing.
+// A state written into lent bytes. Each function of an entry is given an offset at which the entry lies whole in the slice; `write` assumes nothing.
 ghost use mathlib.Core.Path.{_≡_};
 ghost use Prim.Native.Nat.{_+_, _≤_};
 ghost use lib.Dec.{eqb};
 ghost use lib.ListN.{length};
+ghost use Rattle.bytes.specs.Numbers.{two};
+ghost use Rattle.bytes.specs.Writing.{stored};
 ghost use Rattle.model.specs.State.{noServer, noTask, noResource};
-ghost use Rattle.image.specs.Layout.{serversPlace, tasksPlace, resourcesPlace, imageSize, stored};
-ghost use Rattle.image.specs.Encoded.{two, tagged, entries, noTaskNo, taskNoBytes, serverBytes, taskBytes, resourceBytes, written};
-use crate::numbers::put_four;
-use crate::numbers::put_one;
-use crate::numbers::put_two;
+ghost use Rattle.image.specs.Layout.{serversOffset, tasksOffset, resourcesOffset, imageSize};
+ghost use Rattle.image.specs.Encoded.{taggedBytes, entries, noTaskNo, taskNoBytes, serverBytes, taskBytes, resourceBytes, written};
+use crate::Tagged;
 use crate::sizes::IMAGE_SIZE;
 use crate::sizes::RESOURCE_SIZE;
-use crate::sizes::RESOURCES_PLACE;
+use crate::sizes::RESOURCES_OFFSET;
 use crate::sizes::SERVER_SIZE;
-use crate::sizes::SERVERS_PLACE;
+use crate::sizes::SERVERS_OFFSET;
 use crate::sizes::TASK_SIZE;
-use crate::sizes::TASKS_PLACE;
-use crate::tags::mode_number;
-use crate::tags::mode_tag;
-use crate::tags::owner_number;
-use crate::tags::owner_tag;
+use crate::sizes::TASKS_OFFSET;
+use crate::tags::mode_tagged;
+use crate::tags::owner_tagged;
 use crate::tags::phase_tag;
-use crate::tags::runs_number;
-use crate::tags::runs_tag;
+use crate::tags::runs_tagged;
+use bytes::numbers::put_four;
+use bytes::numbers::put_one;
+use bytes::numbers::put_two;
 use model::Resource;
 use model::Server;
 use model::State;
 use model::Task;
 use model::TaskNo;
 
-fn put_tagged(bytes: &mut [u8], at: usize, tag: u8, number: u16)
+fn put_tagged(bytes: &mut [u8], at: usize, t: Tagged)
     requires { ⌜ at + 3 ≤ length (now bytes) ⌝ }
-    ensures { λ _. ⌜ now (bytes .exit) ≡ stored (now (bytes .entry)) at (tagged tag number) ⌝ }
+    ensures { λ _. ⌜ now (bytes .exit) ≡ stored (now (bytes .entry)) at (taggedBytes t) ⌝ }
 {
-    put_one(bytes, at, tag);
-    put_two(bytes, at + 1, number);
+    put_one(bytes, at, t.tag);
+    put_two(bytes, at + 1, t.number);
 }
 
 fn put_server(bytes: &mut [u8], at: usize, s: Server)
@@ -68,8 +68,8 @@ fn put_task(bytes: &mut [u8], at: usize, t: Task)
     let mode = t.mode;
     let runs = t.runs;
     let held = t.held;
-    put_tagged(bytes, at, mode_tag(mode), mode_number(mode));
-    put_tagged(bytes, at + 3, runs_tag(runs), runs_number(runs));
+    put_tagged(bytes, at, mode_tagged(mode));
+    put_tagged(bytes, at + 3, runs_tagged(runs));
     put_two(bytes, at + 6, t.declared);
     put_two(bytes, at + 8, t.depth);
     put_four(bytes, at + 10, t.executed);
@@ -92,38 +92,38 @@ fn put_resource(bytes: &mut [u8], at: usize, r: Resource)
 {
     let owner = r.owner;
     let queue = r.queue;
-    put_tagged(bytes, at, owner_tag(owner), owner_number(owner));
+    put_tagged(bytes, at, owner_tagged(owner));
     put_two(bytes, at + 3, r.waiting);
     put_queue(bytes, at + 5, queue);
 }
 
 fn put_servers(bytes: &mut [u8], servers: [Server; 16])
     requires { ⌜ length (now bytes) ≡ imageSize ⌝ }
-    ensures { λ _. ⌜ now (bytes .exit) ≡ stored (now (bytes .entry)) serversPlace (entries serverBytes noServer servers) ⌝ }
+    ensures { λ _. ⌜ now (bytes .exit) ≡ stored (now (bytes .entry)) serversOffset (entries serverBytes noServer servers) ⌝ }
 {
     for i in 0..16usize {
         let s = servers[i];
-        put_server(bytes, SERVERS_PLACE + SERVER_SIZE * i, s);
+        put_server(bytes, SERVERS_OFFSET + SERVER_SIZE * i, s);
     }
 }
 
 fn put_tasks(bytes: &mut [u8], tasks: [Task; 16])
     requires { ⌜ length (now bytes) ≡ imageSize ⌝ }
-    ensures { λ _. ⌜ now (bytes .exit) ≡ stored (now (bytes .entry)) tasksPlace (entries taskBytes noTask tasks) ⌝ }
+    ensures { λ _. ⌜ now (bytes .exit) ≡ stored (now (bytes .entry)) tasksOffset (entries taskBytes noTask tasks) ⌝ }
 {
     for i in 0..16usize {
         let t = tasks[i];
-        put_task(bytes, TASKS_PLACE + TASK_SIZE * i, t);
+        put_task(bytes, TASKS_OFFSET + TASK_SIZE * i, t);
     }
 }
 
 fn put_resources(bytes: &mut [u8], resources: [Resource; 16])
     requires { ⌜ length (now bytes) ≡ imageSize ⌝ }
-    ensures { λ _. ⌜ now (bytes .exit) ≡ stored (now (bytes .entry)) resourcesPlace (entries resourceBytes noResource resources) ⌝ }
+    ensures { λ _. ⌜ now (bytes .exit) ≡ stored (now (bytes .entry)) resourcesOffset (entries resourceBytes noResource resources) ⌝ }
 {
     for i in 0..16usize {
         let r = resources[i];
-        put_resource(bytes, RESOURCES_PLACE + RESOURCE_SIZE * i, r);
+        put_resource(bytes, RESOURCES_OFFSET + RESOURCE_SIZE * i, r);
     }
 }
 

@@ -3,12 +3,12 @@ use mathlib.Core.Path.{_≡_, refl, sym, _∙_}
 use mathlib.Core.Bool.{Bool, true, false, _&&_, true≢false}
 use mathlib.Core.List.{List, [], _∷_, List·Memᴰ, List·Memᴰ·head, List·Memᴰ·tail, List·Memᴰ·not-nil, List·Memᴰ·cases-cons}
 use mathlib.Core.Logic.{⊎-elim}
-use mathlib.Core.Option.{none, some}
+use mathlib.Core.Option.{Option, none, some}
 use Prim.Native.Nat.{ℕ}
 use native.Mathlib.Omega.{arith}
 use lib.Dec.{eqb}
 use borrow.Author.Tests.{eqb-true, eqb-false}
-use Rattle.laws.specs.Tests.{if_then_else_, firstOf, without}
+use Rattle.laws.specs.Tests.{if_then_else_, _orElse_, firstOf, without}
 
 module _ {ℓ} {C : Type ℓ} where
   -- case on a test, keeping its equation
@@ -29,6 +29,11 @@ module _ {ℓ} {C : Type ℓ} where
   -- nothing is none and some
   pub none-some {κ} : {A : Type κ} {a : A} → none ≡ some a → C
   none-some p = let z : _≡_ {A = ℕ} 0 1 = cc in absurd (omega arith)
+
+-- nothing after a refusal, or after none, changes it
+pub or-none : (x : Option ℕ) → (x orElse none) ≡ x
+or-none none = refl
+or-none (some n) = refl
 
 -- a test that cannot hold fails, and one that cannot fail holds
 pub unheld-fails : (b : Bool) → (b ≡ true → ⊥) → b ≡ false

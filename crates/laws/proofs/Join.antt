@@ -1,7 +1,7 @@
 -- Laws of `joinTo`. A law named none, more or done is a loop's, the value first. Assumes nothing.
 use mathlib.Core.Path.{_≡_, refl, ap, ap₂, _∙_}
 use mathlib.Core.List.{List, [], _++_}
-use Prim.Native.Nat.{ℕ, zero, suc, _+_, _<_, _≤_}
+use Prim.Native.Nat.{ℕ, zero, suc, _+_, _*_, _<_, _≤_}
 use native.Mathlib.Numerals.{add-one}
 use native.Mathlib.Omega.{arith}
 use lib.ListN.{length, length-append}
@@ -30,3 +30,14 @@ module _ {ℓ} {A : Type ℓ} where
   unfolding joinTo sumTo
   join-length zero f = refl
   join-length (suc n) f = length-append (joinTo n f) (f n) ∙ ap (λ k. k + length (f n)) (join-length n f)
+
+  -- parts of one length, and parts of at most so much
+  pub join-long : (f : ℕ → List A) (size : ℕ) → ((i : ℕ) → length (f i) ≡ size) → (n : ℕ) → length (joinTo n f) ≡ size * n
+  unfolding joinTo
+  join-long f size long zero = omega arith
+  join-long f size long (suc n) = length-append (joinTo n f) (f n) ∙ omega (arith, join-long f size long n, long n)
+
+  pub join-most : (f : ℕ → List A) (most : ℕ) → ((i : ℕ) → length (f i) ≤ most) → (n : ℕ) → length (joinTo n f) ≤ most * n
+  unfolding joinTo
+  join-most f most within zero = omega arith
+  join-most f most within (suc n) = simp length-append (omega (arith, join-most f most within n, within n))

@@ -1,23 +1,22 @@
--- What `replay` answers and leaves, from what its parts wrote; and that nothing else meets its contract. Assumes nothing.
+-- What `replay` answers and leaves, from what its parts wrote. Assumes nothing.
 use mathlib.Core.Path.{_≡_, refl, sym, ap, _∙_}
 use mathlib.Core.Bool.{true, false}
 use mathlib.Core.List.{List, _++_}
 use Prim.Native.Nat.{ℕ, _+_, _-_, _/_, _<_, _≤_}
-use native.Mathlib.Nat.{zero-add}
 use native.Mathlib.Omega.{arith}
 use lib.Dec.{leb}
 use lib.ListN.{length, drop}
-use lib.Seq.{sets-eq}
 use borrow.Author.Tests.{lt-ltb, le-ltb, le-leb, lt-leb, leb-true, leb-false}
 use Rattle.laws.proofs.Cases.{split}
+use Rattle.bytes.specs.Writing.{Wrote}
+use Rattle.bytes.proofs.Writing.{stored-first}
 use Rattle.trace.specs.Reading.{items}
 use Rattle.trace.specs.Order.{fileLimit}
 use Rattle.listing.specs.declared.Replayed.{Replayed}
 use Rattle.listing.specs.declared.Replayed.the-variants.{Written, TooShort}
 use Rattle.listing.specs.Listing.{beginning, stopLine, listing}
-use Rattle.listing.specs.Replay.{room, replayed, bufferAfter, saidReplayed}
-use Rattle.listing.specs.Parts.{textFrom}
-use Rattle.listing.specs.Writing.{Wrote}
+use Rattle.listing.specs.Replay.{room, fileBytes, textBytes, replayed, bufferAfter, saidReplayed}
+use Rattle.listing.specs.Computed.{textFrom}
 use Rattle.listing.proofs.Lengths.{listing-fits}
 
 -- the test of the buffer's length, without a product that could be too large
@@ -83,13 +82,9 @@ module _ (file lent : List ℕ) where
   -- the bytes at exit, in plain words: the whole text, then what stood there
   pub buffer-is : room (length file) ≤ length lent → bufferAfter file lent ≡ listing file ++ drop (length (listing file)) lent
   unfolding bufferAfter
-  buffer-is l = rw (le-leb _ _ l) (sets-eq (listing file) lent 0 (omega (arith, listing-fits file)) ∙ ap (λ k. listing file ++ drop k lent) (zero-add (length (listing file))))
-
-  -- two answers, and two buffers, that meet the contract are one
-  pub replay-unique : {out other : List ℕ} {r s : Replayed} → Answered file lent out r → Answered file lent other s → (r ≡ s) × (out ≡ other)
-  replay-unique a b = (a .0 ∙ sym (b .0), a .1 .0 ∙ sym (b .1 .0))
+  buffer-is l = rw (le-leb _ _ l) (stored-first lent (listing file) (omega (arith, listing-fits file)))
 
 -- the buffer of a program is long enough for every file that fits its other buffer
-pub buffers-enough : (n : ℕ) → n ≤ 60001 → room n ≤ 784013
+pub buffers-enough : (n : ℕ) → n ≤ fileBytes → room n ≤ textBytes
 unfolding room
 buffers-enough n l = omega arith

@@ -9,10 +9,9 @@ use Rattle.laws.specs.Loops.{joinTo}
 use Rattle.laws.proofs.Join.{join-none, join-more}
 use Rattle.model.specs.declared.State.{State}
 use Rattle.model.specs.State.{here, serverAt, taskAt}
-use Rattle.listing.specs.Listing.{serverLine, taskLine}
-use Rattle.listing.specs.Parts.{serverText, taskText}
-use Rattle.listing.specs.Writing.{Wrote}
-use Rattle.listing.proofs.Writing.{wrote-none, wrote-then, wrote-most}
+use Rattle.listing.specs.Listing.{serverText, serverLine, taskText, taskLine}
+use Rattle.bytes.specs.Writing.{Wrote}
+use Rattle.bytes.proofs.Writing.{wrote-none, wrote-then, wrote-most}
 
 module _ (m : ℕ) (f : ℕ → List ℕ) where
   pub lines-none : (l : List ℕ) (at : ℕ) → Wrote (m * 0) l at (joinTo 0 f) l at

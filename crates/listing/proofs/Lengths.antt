@@ -8,7 +8,7 @@ use native.Mathlib.Omega.{arith}
 use lib.Dec.{ltb}
 use lib.ListN.{length, length-append}
 use Rattle.laws.specs.Tests.{if_then_else_}
-use Rattle.laws.specs.Loops.{joinTo}
+use Rattle.laws.proofs.Join.{join-most}
 use Rattle.model.specs.declared.Phase.{Phase}
 use Rattle.model.specs.declared.Phase.the-variants.{Idle, Active, Running, Recharging}
 use Rattle.model.specs.declared.State.{State}
@@ -21,12 +21,12 @@ use Rattle.trace.specs.declared.Record.the-variants.{Counts, Reservation, Happe
 use Rattle.trace.specs.declared.Read.{Read}
 use Rattle.trace.specs.declared.Read.the-variants.{Got, End, Fault}
 use Rattle.trace.specs.Reading.{readAt, itemsAfter, itemsFrom, itemsAt, items}
-use Rattle.trace.specs.Order.{Stage, opening, entering, complete, placeRefusal, advanced, fileLimit}
+use Rattle.trace.specs.Order.{Stage, opening, entering, complete, orderRefusal, advanced, fileLimit}
 use Rattle.trace.proofs.Items.{read-moves}
-use Rattle.listing.specs.Text.{bytes, digits, decimal, field, newline, spelled, phaseWord}
-use Rattle.listing.specs.Listing.{Progress, beginning, started, continued, eventLine, stopLine, serverLine, taskLine, endLines, endText, recordText, readText, itemsText, listing}
+use Rattle.bytes.specs.Text.{bytes, digits, decimal}
+use Rattle.listing.specs.Text.{field, newline, spelled, phaseWord}
+use Rattle.listing.specs.Listing.{Progress, beginning, started, continued, eventLine, stopLine, serverText, serverLine, taskText, taskLine, endLines, endText, recordText, readText, itemsText, listing}
 use Rattle.listing.specs.Replay.{room}
-use Rattle.listing.specs.Parts.{serverText, taskText}
 
 either-most : (b : Bool) (xs ys : List ℕ) (m : ℕ) → length xs ≤ m → length ys ≤ m → length (if b then xs else ys) ≤ m
 either-most true xs ys m h k = h
@@ -93,16 +93,11 @@ task-most st t =
     (simp length-append (omega (arith, field-most t, field-most (taskAt st t .executed))))
     (omega arith)
 
-join-most : (n m : ℕ) (f : ℕ → List ℕ) → ((i : ℕ) → length (f i) ≤ m) → length (joinTo n f) ≤ m * n
-unfolding joinTo
-join-most zero m f h = omega arith
-join-most (suc n) m f h = simp length-append (omega (arith, join-most n m f h, h n))
-
 end-most : (st : State) → length (endLines st) ≤ 3081
 unfolding endLines bytes newline
 end-most st =
     simp length-append
-    (omega (arith, field-most (st .clock), join-most 16 144 (serverLine st) (server-most st), join-most 16 47 (taskLine st) (task-most st)))
+    (omega (arith, field-most (st .clock), join-most (serverLine st) 144 (server-most st) 16, join-most (taskLine st) 47 (task-most st) 16))
 
 closing-most : (stage : Stage) (st : State) (at : ℕ) → length (endText stage st at) ≤ 4000
 closing-most opening st at = omega (arith, stop-most at 32)
@@ -127,7 +122,7 @@ read-most
     → length (readText (itemsText (itemsAfter (itemsFrom left file) r)) p at r) ≤ left-over (length file) at
 read-most left file at p (Got r q) e h =
     let m = read-moves file at r q e in
-    record-most (itemsText (itemsFrom left file (q .at))) p at (q .at) (length file) (placeRefusal (p .stage) r) r (m .0) (m .1) (h (q .at))
+    record-most (itemsText (itemsFrom left file (q .at))) p at (q .at) (length file) (orderRefusal (p .stage) r) r (m .0) (m .1) (h (q .at))
 read-most left file at p End e h = omega (arith, closing-most (p .stage) (p .state) at)
 read-most left file at p (Fault n) e h = omega (arith, stop-most at n)
 

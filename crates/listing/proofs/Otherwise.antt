@@ -15,9 +15,9 @@ use Rattle.trace.specs.declared.Record.the-variants.{Counts, Reservation, Happe
 use Rattle.trace.specs.declared.Read.{Read}
 use Rattle.trace.specs.declared.Read.the-variants.{Got, End, Fault}
 use Rattle.trace.specs.Reading.{readAt}
-use Rattle.trace.specs.Order.{opening, entering, complete, placeRefusal}
+use Rattle.trace.specs.Order.{opening, entering, complete, orderRefusal}
 use Rattle.listing.specs.Listing.{Progress, stopLine, endText}
-use Rattle.listing.specs.Parts.{textFrom, unreadNumber}
+use Rattle.listing.specs.Computed.{textFrom, unreadNumber}
 use Rattle.listing.proofs.Texts.{text-end, text-fault}
 
 -- no fault: the file's end (or a record)
@@ -43,17 +43,17 @@ table-unread file at p End n t e h u = text-end file at p e ∙ t ∙ rw u
 table-unread file at p (Fault m) n t e h u = text-fault file at p m e ∙ rw u
 
 -- the wrong record for where it stands
-pub not-counts : (r : Record) → OneOf (1 ∷ 2 ∷ []) (tagOf recorded.the-type r) → placeRefusal opening r ≡ some 32
+pub not-counts : (r : Record) → OneOf (1 ∷ 2 ∷ []) (tagOf recorded.the-type r) → orderRefusal opening r ≡ some 32
 not-counts (Counts a b c) h = ⊎-elim (λ e. absurd (omega arith)) (λ e. absurd (omega arith)) h
 not-counts (Reservation x) h = refl
 not-counts (Happening x) h = refl
 
-pub not-entry : (tb : Table) (k : ℕ) (r : Record) → OneOf (0 ∷ 2 ∷ []) (tagOf recorded.the-type r) → placeRefusal (entering tb k) r ≡ some 32
+pub not-entry : (tb : Table) (k : ℕ) (r : Record) → OneOf (0 ∷ 2 ∷ []) (tagOf recorded.the-type r) → orderRefusal (entering tb k) r ≡ some 32
 not-entry tb k (Counts a b c) h = refl
 not-entry tb k (Reservation x) h = ⊎-elim (λ e. absurd (omega arith)) (λ e. absurd (omega arith)) h
 not-entry tb k (Happening x) h = refl
 
-pub not-event : (tb : Table) (r : Record) → OneOf (0 ∷ 1 ∷ []) (tagOf recorded.the-type r) → placeRefusal (complete tb) r ≡ some 32
+pub not-event : (tb : Table) (r : Record) → OneOf (0 ∷ 1 ∷ []) (tagOf recorded.the-type r) → orderRefusal (complete tb) r ≡ some 32
 not-event tb (Counts a b c) h = refl
 not-event tb (Reservation x) h = refl
 not-event tb (Happening x) h = ⊎-elim (λ e. absurd (omega arith)) (λ e. absurd (omega arith)) h

@@ -8,7 +8,6 @@ use Rattle.model.specs.declared.Table.{Table}
 use Rattle.model.specs.declared.State.{State}
 use Rattle.model.specs.declared.Event.{Event}
 use Rattle.model.specs.declared.Outcome.{Outcome}
-use Rattle.model.specs.declared.Answer.the-variants.{Refused}
 use Rattle.model.specs.Step.{stepped}
 use Rattle.trace.specs.declared.Place.{Place}
 use Rattle.trace.specs.declared.Record.the-variants.{Counts, Reservation, Happening}
@@ -19,11 +18,10 @@ use Rattle.trace.specs.Order.{complete, countedTable}
 use Rattle.trace.proofs.Items.{read-moves}
 use Rattle.listing.specs.Listing.{Progress, eventLine, readText, itemsText}
 use Rattle.listing.specs.Replay.{room}
-use Rattle.listing.specs.Parts.{textFrom, running}
-use Rattle.listing.specs.Writing.{Wrote}
-use Rattle.listing.proofs.Writing.{wrote-none, wrote-then, wrote-most}
+use Rattle.listing.specs.Computed.{textFrom, running}
+use Rattle.bytes.specs.Writing.{Wrote}
+use Rattle.bytes.proofs.Writing.{wrote-none, wrote-then, wrote-most}
 use Rattle.listing.proofs.Texts.{text-event}
-use Rattle.listing.proofs.Refused.{refused-same}
 
 -- past the table the text does not depend on it
 abbrev past : Table → State → ℕ → Progress
@@ -80,14 +78,6 @@ module _ {file lent : List ℕ} {from : ℕ} {fresh : State} where
               ∙ sym (text-event file at (running st events) q e g refl))
               ∙ h .rest;
         }
-
-    -- a refused event leaves the state as it was
-    pub so-far-refused
-        : {to : List ℕ} {next : ℕ} (e : Event) (q : Place) (o : Outcome) (n : ℕ)
-        → readAt file at ≡ Got (Happening e) q → o ≡ stepped st e → Wrote 51 out written (eventLine (events + 1) (o .answer)) to next → o .answer ≡ Refused n
-        → So-far file lent from fresh to (q .at) st (events + 1) next
-    so-far-refused e q o n g s w k =
-        rw (ap (λ p. p .state) s ∙ refused-same st e n (sym (ap (λ p. p .answer) s) ∙ k)) at (so-far-turn e q o g s w)
 
     -- there is room for a line, and for the last lines
     pub so-far-room : (n : ℕ) → n ≤ 4000 → room (length file) ≤ length lent → written + n ≤ length out

@@ -31,7 +31,7 @@ use Rattle.trace.specs.Reading.{readAt}
 use Rattle.trace.specs.Order.{Stage, entering, complete, countedTable}
 use Rattle.trace.proofs.Items.{read-moves}
 use Rattle.listing.specs.Listing.{beginning, stopLine, started}
-use Rattle.listing.specs.Parts.{textFrom, countsAlone, unreadNumber, refusalNumber, running}
+use Rattle.listing.specs.Computed.{textFrom, countsAlone, unreadNumber, refusalNumber, running}
 use Rattle.listing.proofs.Texts.{text-refused, text-counts, text-entry}
 use Rattle.listing.proofs.Otherwise.{table-unread, not-counts, not-entry}
 use Rattle.listing.proofs.Tables.{Entered, counts-fit, counts-tasks, counts-tested, entered-none, entered-more, entry-tested, fresh-refused, fresh-made, whole-accepted}

@@ -12,9 +12,9 @@ use lib.Pow.{pow-pos}
 use lib.ListN.{length, getD-replicate, length-set}
 use lib.Seq.{getD-set-same, getD-set-other}
 use borrow.Author.Tests.{lt-ltb, le-ltb, ltb-true}
-use Rattle.laws.specs.Tests.{firstOf, _orElse_}
+use Rattle.laws.specs.Tests.{firstOf}
 use Rattle.laws.specs.Loops.{foldTo}
-use Rattle.laws.proofs.Cases.{split, unfailed-holds, none-some}
+use Rattle.laws.proofs.Cases.{split, unfailed-holds, none-some, or-none}
 use Rattle.laws.proofs.Reflect.{Reflects, reflects-and, reflects-le}
 use Rattle.laws.proofs.Fold.{fold-keeps, last-or-below}
 use Rattle.model.specs.declared.Entry.{Entry}
@@ -24,7 +24,7 @@ use Rattle.model.specs.State.{places}
 use Rattle.model.specs.Sound.{countsFit}
 use Rattle.model.specs.Fresh.{noEntry, entryAt, countsRefusal, entryRefusal, taskRefusal, freshRefusal, freshState, freshBy, freshOf}
 use Rattle.trace.specs.Order.{countedTable, withEntry}
-use Rattle.listing.specs.Parts.{blameless, countsAlone}
+use Rattle.listing.specs.Computed.{blameless, countsAlone}
 
 -- the first tasks of a table
 abbrev pub first : ℕ → Table → Table
@@ -89,10 +89,6 @@ whole-accepted tb h = rw (counts-accepted tb (h .fit)) (none-refused tb places (
 
 pub entered-none : (p t r : ℕ) → countsFit p t r ≡ true → Entered (countedTable p t r) 0
 entered-none p t r e = record { fit = e; most = omega arith; whole = refl; good = λ i l. absurd (omega arith) }
-
-or-none : (x : Option ℕ) → (x orElse none) ≡ x
-or-none none = refl
-or-none (some n) = refl
 
 module _ (tb : Table) (k : ℕ) (e : Entry) (h : Entered tb k) (l : k < tb .tasks) where
   tasks-most : tb .tasks ≤ places

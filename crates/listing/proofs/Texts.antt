@@ -12,10 +12,10 @@ use Rattle.trace.specs.declared.Record.the-variants.{Counts, Reservation, Happe
 use Rattle.trace.specs.declared.Read.{Read}
 use Rattle.trace.specs.declared.Read.the-variants.{Got, End, Fault}
 use Rattle.trace.specs.Reading.{readAt, itemsAfter, itemsAt}
-use Rattle.trace.specs.Order.{placeRefusal, advanced}
+use Rattle.trace.specs.Order.{orderRefusal, advanced}
 use Rattle.trace.proofs.Items.{items-is}
 use Rattle.listing.specs.Listing.{Progress, started, continued, eventLine, stopLine, endText, recordText, readText, itemsText}
-use Rattle.listing.specs.Parts.{textFrom}
+use Rattle.listing.specs.Computed.{textFrom}
 
 module _ (file : List ℕ) (at : ℕ) where
   -- what is read at the place decides
@@ -34,25 +34,25 @@ module _ (file : List ℕ) (at : ℕ) where
     -- a record, by the refusal that it meets where it stands
     text-got
         : (r : Record) → readAt file at ≡ Got r q
-        → textFrom file p at ≡ recordText (λ next. textFrom file next (q .at)) p at (placeRefusal (p .stage) r) r
+        → textFrom file p at ≡ recordText (λ next. textFrom file next (q .at)) p at (orderRefusal (p .stage) r) r
     unfolding textFrom
     text-got r e = text-reads p (Got r q) e
 
     pub text-refused
-        : (r : Record) (n : ℕ) → readAt file at ≡ Got r q → placeRefusal (p .stage) r ≡ some n → textFrom file p at ≡ stopLine at n
+        : (r : Record) (n : ℕ) → readAt file at ≡ Got r q → orderRefusal (p .stage) r ≡ some n → textFrom file p at ≡ stopLine at n
     text-refused r n e f = text-got r e ∙ ap (λ o. recordText (λ next. textFrom file next (q .at)) p at o r) f
 
     pub text-counts
-        : (a b c : ℕ) → readAt file at ≡ Got (Counts a b c) q → placeRefusal (p .stage) (Counts a b c) ≡ none
+        : (a b c : ℕ) → readAt file at ≡ Got (Counts a b c) q → orderRefusal (p .stage) (Counts a b c) ≡ none
         → textFrom file p at ≡ textFrom file (started (advanced (p .stage) (Counts a b c))) (q .at)
     text-counts a b c e f = text-got (Counts a b c) e ∙ ap (λ o. recordText (λ next. textFrom file next (q .at)) p at o (Counts a b c)) f
 
     pub text-entry
-        : (x : Entry) → readAt file at ≡ Got (Reservation x) q → placeRefusal (p .stage) (Reservation x) ≡ none
+        : (x : Entry) → readAt file at ≡ Got (Reservation x) q → orderRefusal (p .stage) (Reservation x) ≡ none
         → textFrom file p at ≡ textFrom file (started (advanced (p .stage) (Reservation x))) (q .at)
     text-entry x e f = text-got (Reservation x) e ∙ ap (λ o. recordText (λ next. textFrom file next (q .at)) p at o (Reservation x)) f
 
     pub text-event
-        : (x : Event) → readAt file at ≡ Got (Happening x) q → placeRefusal (p .stage) (Happening x) ≡ none
+        : (x : Event) → readAt file at ≡ Got (Happening x) q → orderRefusal (p .stage) (Happening x) ≡ none
         → textFrom file p at ≡ eventLine (p .events + 1) (stepped (p .state) x .answer) ++ textFrom file (continued p x) (q .at)
     text-event x e f = text-got (Happening x) e ∙ ap (λ o. recordText (λ next. textFrom file next (q .at)) p at o (Happening x)) f

@@ -1,5 +1,4 @@
 pub mod Text
 pub mod Listing
 pub mod Replay
-pub mod Writing
-pub mod Parts
+pub mod Computed

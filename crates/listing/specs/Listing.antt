@@ -6,6 +6,7 @@ use lib.Dec.{ltb}
 use lib.ListN.{length}
 use Rattle.laws.specs.Tests.{if_then_else_}
 use Rattle.laws.specs.Loops.{joinTo}
+use Rattle.model.specs.declared.Server.{Server}
 use Rattle.model.specs.declared.State.{State}
 use Rattle.model.specs.declared.Event.{Event}
 use Rattle.model.specs.declared.Answer.{Answer}
@@ -18,7 +19,7 @@ use Rattle.trace.specs.declared.Record.the-variants.{Counts, Reservation, Happe
 use Rattle.trace.specs.declared.Read.{Read}
 use Rattle.trace.specs.declared.Read.the-variants.{Got, End, Fault}
 use Rattle.trace.specs.Reading.{items}
-use Rattle.trace.specs.Order.{Stage, opening, entering, complete, placeRefusal, advanced, fileLimit}
+use Rattle.trace.specs.Order.{Stage, opening, entering, complete, orderRefusal, advanced, fileLimit}
 use Rattle.listing.specs.Text.{bytes, decimal, field, newline, spelled, phaseWord}
 
 -- "Per event: number from 1, answer word (`refused` for a refusal), number."
@@ -29,17 +30,22 @@ eventLine n a = decimal n ++ bytes " " ++ spelled (said a .0) ++ field (said a .
 unfoldable pub stopLine : ℕ → ℕ → List ℕ
 stopLine offset n = bytes "stop" ++ field offset ++ field n ++ newline
 
--- "per server `server`, number, state, budget, deadline, own, lent, spin"
-unfoldable pub serverLine : State → ℕ → List ℕ
-serverLine st s =
-    if here st s
-    then bytes "server" ++ field s ++ bytes " " ++ phaseWord (serverAt st s .phase) ++ field (serverAt st s .budget)
-    ++ field (serverAt st s .deadline) ++ field (serverAt st s .own) ++ field (serverAt st s .lent) ++ field (serverAt st s .spin) ++ newline
-    else []
+-- "`server`, number, state, budget, deadline, own, lent, spin"
+abbrev pub serverText : ℕ → Server → List ℕ
+serverText s server =
+    bytes "server" ++ field s ++ bytes " " ++ phaseWord (server .phase) ++ field (server .budget) ++ field (server .deadline) ++ field (server .own)
+    ++ field (server .lent) ++ field (server .spin) ++ newline
 
--- "per task `task`, number, executed"
+-- "`task`, number, executed"
+abbrev pub taskText : ℕ → ℕ → List ℕ
+taskText t executed = bytes "task" ++ field t ++ field executed ++ newline
+
+-- "per server", "per task"
+unfoldable pub serverLine : State → ℕ → List ℕ
+serverLine st s = if here st s then serverText s (serverAt st s) else []
+
 unfoldable pub taskLine : State → ℕ → List ℕ
-taskLine st t = if here st t then bytes "task" ++ field t ++ field (taskAt st t .executed) ++ newline else []
+taskLine st t = if here st t then taskText t (taskAt st t .executed) else []
 
 -- "Then `end` and clock"
 unfoldable pub endLines : State → List ℕ
@@ -78,7 +84,7 @@ recordText rest p at none (Happening e) = eventLine (p .events + 1) (stepped (p 
 
 -- a reading: "Each is tested as it is read, so the file's earliest fault is told; lines already printed stay and no `end` follows."
 abbrev pub readText : (Progress → List ℕ) → Progress → ℕ → Read → List ℕ
-readText rest p at (Got r q) = recordText rest p at (placeRefusal (p .stage) r) r
+readText rest p at (Got r q) = recordText rest p at (orderRefusal (p .stage) r) r
 readText rest p at End = endText (p .stage) (p .state) at
 readText rest p at (Fault n) = stopLine at n
 

@@ -3,9 +3,10 @@ use mathlib.Core.List.{List}
 use Prim.Native.Nat.{ℕ, _+_, _*_}
 use lib.Dec.{leb}
 use lib.ListN.{length}
-use lib.Seq.{sets}
 use Rattle.laws.specs.Tests.{if_then_else_}
+use Rattle.bytes.specs.Writing.{stored}
 use Rattle.model.specs.Said.{Word, ok, refused}
+use Rattle.trace.specs.Order.{fileLimit}
 use Rattle.listing.specs.declared.Replayed.{Replayed}
 use Rattle.listing.specs.declared.Replayed.the-variants.{Written, TooShort}
 use Rattle.listing.specs.Listing.{listing}
@@ -15,13 +16,20 @@ use Rattle.listing.specs.Listing.{listing}
 unfoldable pub room : ℕ → ℕ
 room n = 13 * n + 4000
 
+-- the buffers of a program that replays: for a file up to one byte past the limit, and for the listing of every such file
+abbrev pub fileBytes : ℕ
+fileBytes = fileLimit + 1
+
+abbrev pub textBytes : ℕ
+textBytes = room fileBytes
+
 -- the answer, from the file and the length of the buffer
 unfoldable pub replayed : List ℕ → ℕ → Replayed
 replayed file lent = if leb (room (length file)) lent then Written (length (listing file)) else TooShort
 
 -- the buffer afterwards: the whole text and, after it, what stood there; a buffer that is too short stays as it was
 unfoldable pub bufferAfter : List ℕ → List ℕ → List ℕ
-bufferAfter file lent = if leb (room (length file)) (length lent) then sets lent 0 (listing file) else lent
+bufferAfter file lent = if leb (room (length file)) (length lent) then stored lent 0 (listing file) else lent
 
 -- document 01 has no number for a buffer that is too short: it is told as `refused` and 0
 abbrev pub saidReplayed : Replayed → Word × ℕ

@@ -1,18 +1,31 @@
-// The buffers of a program that replays: for a file up to one byte past the limit, and for the listing of every such file. Assumes nothing.
+// The buffers of a program that replays: for a file up to one byte past the limit, and for the listing of every such file. Each contract also says how
+// long the buffer is, so that no proof above has to write the zeros out. Assumes nothing.
 ghost use mathlib.Core.Path.{_≡_};
 ghost use lib.ListN.{length, replicate};
+ghost use Rattle.listing.specs.Replay.{fileBytes, textBytes};
 
-pub fn file_buffer() -> [u8; 60001]
-    ensures { λ r. ⌜ r ≡ replicate 60001 0 ⌝ }
-    ensures long { λ r. ⌜ 60001 ≡ length r ⌝ }
+// "33 file above 60,000 bytes"
+pub const FILE_LIMIT: usize = 60000;
+
+// The room that a listing needs: so much for each byte of the file, and so much more.
+pub const ROOM_EACH: usize = 13;
+
+pub const ROOM_MORE: usize = 4000;
+
+pub const FILE_BYTES: usize = FILE_LIMIT + 1;
+
+pub const TEXT_BYTES: usize = ROOM_EACH * FILE_BYTES + ROOM_MORE;
+
+pub fn file_buffer() -> [u8; FILE_BYTES]
+    ensures { λ r. ⌜ r ≡ replicate fileBytes 0 ⌝ }
+    ensures long { λ r. ⌜ fileBytes ≡ length r ⌝ }
 {
-    [0; 60001]
+    [0; FILE_BYTES]
 }
 
-// 13 bytes for each of the file's, and 4,000.
-pub fn text_buffer() -> [u8; 784013]
-    ensures { λ r. ⌜ r ≡ replicate 784013 0 ⌝ }
-    ensures long { λ r. ⌜ 784013 ≡ length r ⌝ }
+pub fn text_buffer() -> [u8; TEXT_BYTES]
+    ensures { λ r. ⌜ r ≡ replicate textBytes 0 ⌝ }
+    ensures long { λ r. ⌜ textBytes ≡ length r ⌝ }
 {
-    [0; 784013]
+    [0; TEXT_BYTES]
 }

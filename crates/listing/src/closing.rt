@@ -1,16 +1,18 @@
 // What stands after the events where a trace is good to its end: `end` and the clock, then a line for each server and for each task. Each function
 // is given a buffer that has room for the longest text that it can write.
+ghost use mathlib.Core.List.{_++_};
 ghost use Prim.Native.Nat.{_+_, _≤_};
 ghost use lib.ListN.{length};
 ghost use Rattle.laws.specs.Loops.{joinTo};
-ghost use Rattle.listing.specs.Text.{phaseWord};
-ghost use Rattle.listing.specs.Listing.{serverLine, taskLine, endLines};
-ghost use Rattle.listing.specs.Parts.{stateText, budgetText, accountsText, serverText, taskText};
-ghost use Rattle.listing.specs.Writing.{Wrote};
-use crate::numbers::put_field;
-use crate::numbers::put_line;
-use crate::numbers::put_named;
-use crate::numbers::put_text;
+ghost use Rattle.bytes.specs.Text.{bytes};
+ghost use Rattle.bytes.specs.Writing.{Wrote};
+ghost use Rattle.listing.specs.Text.{field, phaseWord};
+ghost use Rattle.listing.specs.Listing.{serverText, serverLine, taskText, taskLine, endLines};
+use crate::fields::put_field;
+use crate::fields::put_line;
+use crate::fields::put_named;
+use crate::fields::put_pair;
+use bytes::text::put_text;
 use model::Phase;
 use model::Server;
 use model::State;
@@ -28,42 +30,25 @@ fn put_phase(out: &mut [u8], at: usize, phase: Phase) -> usize
 }
 
 // "`server`, number, state"
-fn put_server_state(out: &mut [u8], at: usize, s: usize, phase: Phase) -> usize
+fn put_state(out: &mut [u8], at: usize, s: usize, phase: Phase) -> usize
     requires { ⌜ at + 38 ≤ length (now out) ⌝ }
-    ensures { λ r. ⌜ Wrote 38 (now (out .entry)) at (stateText s phase) (now (out .exit)) r ⌝ }
+    ensures { λ r. ⌜ Wrote 38 (now (out .entry)) at (bytes "server" ++ field s ++ bytes " " ++ phaseWord phase) (now (out .exit)) r ⌝ }
 {
     let mut next = put_named(out, at, b"server", s);
     next = put_text(out, next, b" ");
     put_phase(out, next, phase)
 }
 
-// "`server`, number, state, budget, deadline"
-fn put_server_budget(out: &mut [u8], at: usize, s: usize, server: Server) -> usize
-    requires { ⌜ at + 80 ≤ length (now out) ⌝ }
-    ensures { λ r. ⌜ Wrote 80 (now (out .entry)) at (budgetText s server) (now (out .exit)) r ⌝ }
-{
-    let phase = server.phase;
-    let mut next = put_server_state(out, at, s, phase);
-    next = put_field(out, next, server.budget as usize);
-    put_field(out, next, server.deadline as usize)
-}
-
-// The same with "own, lent, spin".
-fn put_server_accounts(out: &mut [u8], at: usize, s: usize, server: Server) -> usize
-    requires { ⌜ at + 143 ≤ length (now out) ⌝ }
-    ensures { λ r. ⌜ Wrote 143 (now (out .entry)) at (accountsText s server) (now (out .exit)) r ⌝ }
-{
-    let mut next = put_server_budget(out, at, s, server);
-    next = put_field(out, next, server.own as usize);
-    next = put_field(out, next, server.lent as usize);
-    put_field(out, next, server.spin as usize)
-}
-
+// "`server`, number, state, budget, deadline, own, lent, spin"
 fn put_server(out: &mut [u8], at: usize, s: usize, server: Server) -> usize
     requires { ⌜ at + 144 ≤ length (now out) ⌝ }
     ensures { λ r. ⌜ Wrote 144 (now (out .entry)) at (serverText s server) (now (out .exit)) r ⌝ }
 {
-    let next = put_server_accounts(out, at, s, server);
+    let phase = server.phase;
+    let mut next = put_state(out, at, s, phase);
+    next = put_pair(out, next, server.budget as usize, server.deadline as usize);
+    next = put_pair(out, next, server.own as usize, server.lent as usize);
+    next = put_field(out, next, server.spin as usize);
     put_text(out, next, b"\n")
 }
 

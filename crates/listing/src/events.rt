@@ -2,18 +2,18 @@
 // with room for the listing of every file of the trace's length.
 ghost use Prim.Native.Nat.{_≤_};
 ghost use lib.ListN.{length};
+ghost use Rattle.bytes.specs.Writing.{Wrote};
 ghost use Rattle.listing.specs.Replay.{room};
-ghost use Rattle.listing.specs.Parts.{textFrom, running};
-ghost use Rattle.listing.specs.Writing.{Wrote};
+ghost use Rattle.listing.specs.Computed.{textFrom, running};
 use crate::closing::put_end;
 use crate::lines::put_event;
 use crate::lines::put_stop;
-use model::Answer;
 use model::State;
 use trace::Place;
 use trace::Read;
 use trace::Record;
 
+// Past its table a replay is `running`: the text no longer depends on the table (law `running-is`).
 pub fn put_from_events(file: &[u8], out: &mut [u8], start: Place, fresh: State) -> usize
     requires { ⌜ (start .at ≤ length (now file)) × (room (length (now file)) ≤ length (now out)) ⌝ }
     ensures { λ r. ⌜ Wrote (room (length (now (file .entry)))) (now (out .entry)) 0 (textFrom (now (file .entry)) (running fresh 0) (start .at)) (now (out .exit)) r ⌝ }
@@ -38,10 +38,7 @@ pub fn put_from_events(file: &[u8], out: &mut [u8], start: Place, fresh: State) 
         let answer = outcome.answer;
         events += 1;
         written = put_event(out, written, events, answer);
+        state = outcome.state;
         place = next;
-        let Answer::Refused(_) = answer else {
-            state = outcome.state;
-            continue;
-        };
     }
 }

@@ -9,7 +9,7 @@ pub enum Replayed {
 pub mod buffers;
 mod closing;
 mod events;
+mod fields;
 mod lines;
-mod numbers;
 mod table;
 pub mod whole;

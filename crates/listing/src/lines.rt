@@ -2,14 +2,14 @@
 ghost use mathlib.Core.List.{_++_};
 ghost use Prim.Native.Nat.{_+_, _≤_};
 ghost use lib.ListN.{length};
+ghost use Rattle.bytes.specs.Writing.{Wrote};
 ghost use Rattle.model.specs.Said.{said};
 ghost use Rattle.listing.specs.Text.{spelled, field};
 ghost use Rattle.listing.specs.Listing.{eventLine, stopLine};
-ghost use Rattle.listing.specs.Writing.{Wrote};
-use crate::numbers::put_line;
-use crate::numbers::put_named;
-use crate::numbers::put_number;
-use crate::numbers::put_text;
+use crate::fields::put_line;
+use crate::fields::put_named;
+use bytes::text::put_number;
+use bytes::text::put_text;
 use model::Answer;
 
 // "`stop`, its offset, refusal number"

@@ -5,13 +5,13 @@ ghost use mathlib.Core.Bool.{true};
 ghost use mathlib.Core.Option.{none};
 ghost use Prim.Native.Nat.{_≤_};
 ghost use lib.ListN.{length};
+ghost use Rattle.bytes.specs.Writing.{Wrote};
 ghost use Rattle.model.specs.Fresh.{freshRefusal, freshState, freshOf};
 ghost use Rattle.model.specs.Sound.{countsFit};
 ghost use Rattle.trace.specs.Order.{entering, countedTable};
 ghost use Rattle.listing.specs.Listing.{beginning, started};
 ghost use Rattle.listing.specs.Replay.{room};
-ghost use Rattle.listing.specs.Parts.{textFrom, unreadNumber, refusalNumber, countsAlone};
-ghost use Rattle.listing.specs.Writing.{Wrote};
+ghost use Rattle.listing.specs.Computed.{textFrom, unreadNumber, refusalNumber, countsAlone};
 use crate::lines::put_stop;
 use model::Entry;
 use model::FreshAnswer;
@@ -57,7 +57,7 @@ fn fresh_state(table: Table) -> State
     begun.state
 }
 
-// The test of the counts alone, on a table whose entries no test refuses.
+// The test of the counts alone, on a table whose entries no test refuses (law `counts-tested`).
 fn counts_answer(processors: u16, tasks: u16, resources: u16) -> FreshAnswer
     ensures { λ r. ⌜ r ≡ freshOf (countsAlone processors tasks resources) .answer ⌝ }
 {
@@ -75,7 +75,7 @@ fn counts_answer(processors: u16, tasks: u16, resources: u16) -> FreshAnswer
     })
 }
 
-// "then a 17 per task": each entry is tested by fresh on the table so far, of which it is the last.
+// "then a 17 per task": each entry is tested by fresh on the table so far, of which it is the last (law `entry-tested`).
 fn put_from_entries(
     file: &[u8],
     out: &mut [u8],
@@ -125,7 +125,7 @@ fn put_from_entries(
     crate::events::put_from_events(file, out, place, state)
 }
 
-// "One 16, then ..": the whole listing of a file that is not too long.
+// "One 16, then ..": the whole listing of a file that is not too long (law `listing-read`).
 pub fn put_listing(file: &[u8], out: &mut [u8]) -> usize
     requires { ⌜ room (length (now file)) ≤ length (now out) ⌝ }
     ensures { λ r. ⌜ Wrote (room (length (now (file .entry)))) (now (out .entry)) 0 (textFrom (now (file .entry)) beginning 0) (now (out .exit)) r ⌝ }

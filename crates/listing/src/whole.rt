@@ -4,15 +4,18 @@ ghost use lib.Dec.{leb};
 ghost use lib.ListN.{length};
 ghost use Rattle.listing.specs.Replay.{room, replayed, bufferAfter, saidReplayed};
 use crate::Replayed;
+use crate::buffers::FILE_LIMIT;
+use crate::buffers::ROOM_EACH;
+use crate::buffers::ROOM_MORE;
 
-// Whether a buffer of so many bytes is long enough for every file of a length.
+// Whether a buffer of so many bytes is long enough for every file of a length, without a product that could be too large.
 fn has_room(length: usize, lent: usize) -> bool
     ensures { λ r. ⌜ r ≡ leb (room length) lent ⌝ }
 {
-    if lent < 4000 {
+    if lent < ROOM_MORE {
         return false;
     }
-    length <= (lent - 4000) / 13
+    length <= (lent - ROOM_MORE) / ROOM_EACH
 }
 
 // The text's length, with the text in the buffer from its start and what stood there after it; or that the buffer is too short, and it stays as it was.
@@ -25,7 +28,7 @@ pub fn replay(file: &[u8], out: &mut [u8]) -> Replayed
         return Replayed::TooShort;
     }
     // "33 file above 60,000 bytes (place 0, nothing else)"
-    if file.len() > 60000 {
+    if file.len() > FILE_LIMIT {
         return Replayed::Written(crate::lines::put_stop(out, 0, 0, 33));
     }
     Replayed::Written(crate::table::put_listing(file, out))

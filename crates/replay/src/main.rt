@@ -2,7 +2,7 @@
 // of which no contract can speak.
 ghost use mathlib.Core.Path.{_≡_};
 ghost use Prim.Native.Nat.{_≤_};
-ghost use lib.ListN.{length};
+ghost use lib.ListN.{length, take};
 ghost use Rattle.listing.specs.Listing.{listing};
 ghost use Rattle.listing.specs.Replay.{room};
 ghost use Rattle.replay.specs.Input.{Within};
@@ -35,10 +35,10 @@ fn read_all(file: &mut [u8]) -> Input
     Input::Whole(n)
 }
 
-// The listing in a buffer that is long enough, and its length.
+// How many bytes of the buffer, which is long enough, are to be printed: they are the listing, and no more.
 fn put_whole(file: &[u8], out: &mut [u8]) -> usize
     requires { ⌜ room (length (now file)) ≤ length (now out) ⌝ }
-    ensures { λ r. ⌜ (r ≡ length (listing (now (file .entry)))) × (r ≤ length (now (out .exit))) ⌝ }
+    ensures { λ r. ⌜ (take r (now (out .exit)) ≡ listing (now (file .entry))) × (r ≤ length (now (out .exit))) ⌝ }
 {
     let Replayed::Written(n) = listing::whole::replay(file, out) else {
         return 0;

@@ -1,7 +1,7 @@
 -- The length of a kind's body, by bands of kinds, and which kinds have one. Assumes nothing.
 use mathlib.Core.Path.{_≡_}
 use mathlib.Core.Bool.{Bool, true, false, _&&_, _||_}
-use Prim.Native.Nat.{ℕ, suc, _≤_, _<_}
+use Prim.Native.Nat.{ℕ, _≤_, _<_}
 use native.Mathlib.Omega.{arith}
 use lib.Dec.{leb, eqb}
 use borrow.Author.Tests.{lt-leb, le-leb, ne-eqb, eqb-true, eqb-false, leb-true, leb-false}
@@ -72,25 +72,26 @@ body-most k =
     (at-most (eqb k 5 || (leb 7 k && leb k 8)) 4 _ (omega arith)
     (at-most (eqb k 16) 6 _ (omega arith) (at-most (eqb k 17) 10 0 (omega arith) (omega arith))))
 
--- what is n or more, and not n, is more
-above : (n k : ℕ) → n ≤ k → (k ≡ n → ⊥) → suc n ≤ k
-above n k l x = omega arith
-
--- the last kind that has a body
-pub known-last : (k : ℕ) → (bodyLength k ≡ 0 → ⊥) → (k ≡ 1 → ⊥) → (k ≡ 2 → ⊥) → (k ≡ 3 → ⊥) → (k ≡ 4 → ⊥) → (k ≡ 5 → ⊥) → (k ≡ 6 → ⊥) → (k ≡ 7 → ⊥)
-    → (k ≡ 8 → ⊥) → (k ≡ 16 → ⊥) → k ≡ 17
-known-last k known a b c d e f g h i =
-    split
-    (eqb k 17)
-    (λ y. eqb-true k 17 y)
-    (λ n.
+-- a known kind that is not the table's is an event's
+pub known-event : (k : ℕ) → (bodyLength k ≡ 0 → ⊥) → (k ≡ 16 → ⊥) → (k ≡ 17 → ⊥) → (1 ≤ k) × (k ≤ 8)
+known-event k known a b =
     split
     (leb 1 k)
-    (λ y.
-    absurd
-    (known
-    (unknown-high k
-    (above 8 k (above 7 k (above 6 k (above 5 k (above 4 k (above 3 k (above 2 k (above 1 k (leb-true 1 k y) a) b) c) d) e) f) g) h)
-    i
-    (eqb-false k 17 n))))
-    (λ y. absurd (known (unknown-low k (leb-false 1 k y)))))
+    (λ y. (leb-true 1 k y, split (leb 9 k) (λ z. absurd (known (unknown-high k (leb-true 9 k z) a b))) (λ z. omega (arith, leb-false 9 k z))))
+    (λ n. absurd (known (unknown-low k (leb-false 1 k n))))
+
+-- an event's kind has two bytes or four, the later ones four
+pub event-body : (k : ℕ) → 1 ≤ k → k ≤ 8 → 2 ≤ bodyLength k
+event-body k a b =
+    split
+    (leb 7 k)
+    (λ y. omega (arith, two-operands k (leb-true 7 k y) b))
+    (λ n.
+    split
+    (leb k 4)
+    (λ y. omega (arith, one-operand k a (leb-true k 4 y)))
+    (λ m.
+    split
+    (eqb k 5)
+    (λ y. omega (arith, elapse-body k (eqb-true k 5 y)))
+    (λ l. omega (arith, recharge-body k (omega (arith, leb-false 7 k n, leb-false k 4 m, eqb-false k 5 l))))))

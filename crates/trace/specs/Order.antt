@@ -25,16 +25,16 @@ abbrev pub withEntry : Table → ℕ → Entry → Table
 withEntry tb k e = record { processors = tb .processors; tasks = tb .tasks; resources = tb .resources; entry = set (tb .entry) k e }
 
 -- "32 out of order or table unfinished"; 19 to 21 as the table is read
-abbrev pub placeRefusal : Stage → Record → Option ℕ
-placeRefusal opening (Counts p t r) = countsRefusal (countedTable p t r)
-placeRefusal opening (Reservation e) = some 32
-placeRefusal opening (Happening e) = some 32
-placeRefusal (entering tb k) (Counts p t r) = some 32
-placeRefusal (entering tb k) (Reservation e) = entryRefusal (tb .resources) e
-placeRefusal (entering tb k) (Happening e) = some 32
-placeRefusal (complete tb) (Counts p t r) = some 32
-placeRefusal (complete tb) (Reservation e) = some 32
-placeRefusal (complete tb) (Happening e) = none
+abbrev pub orderRefusal : Stage → Record → Option ℕ
+orderRefusal opening (Counts p t r) = countsRefusal (countedTable p t r)
+orderRefusal opening (Reservation e) = some 32
+orderRefusal opening (Happening e) = some 32
+orderRefusal (entering tb k) (Counts p t r) = some 32
+orderRefusal (entering tb k) (Reservation e) = entryRefusal (tb .resources) e
+orderRefusal (entering tb k) (Happening e) = some 32
+orderRefusal (complete tb) (Counts p t r) = some 32
+orderRefusal (complete tb) (Reservation e) = some 32
+orderRefusal (complete tb) (Happening e) = none
 
 -- the stage after a record that is not refused there
 abbrev pub advanced : Stage → Record → Stage

@@ -1,27 +1,20 @@
--- What reading a record at a place of a trace gives: document 01, "Trace and replay", its first two paragraphs. Assumes nothing.
-use mathlib.Core.Bool.{not, _&&_, _||_}
+-- What reading a record at a place of a trace gives: document 01, "Trace and replay", its first two paragraphs. The numbers of
+-- `bytes` are passed on, since every record is made of them. Assumes nothing.
+use mathlib.Core.Bool.{Bool, not, _&&_, _||_}
 use mathlib.Core.List.{List, [], _∷_}
 use mathlib.Core.Option.{Option, none, some}
-use Prim.Native.Nat.{ℕ, zero, suc, _+_, _-_, _*_}
+use Prim.Native.Nat.{ℕ, zero, suc, _+_, _-_}
 use lib.Dec.{ltb, leb, eqb}
-use lib.ListN.{length, getD}
+use lib.ListN.{length}
 use Rattle.laws.specs.Tests.{if_then_else_, _when_or_, accepted, firstOf}
-use Rattle.model.specs.declared.TaskNo.{TaskNo}
-use Rattle.model.specs.declared.ServerNo.{ServerNo}
+unfoldable pub use Rattle.bytes.specs.Numbers.{twoBytes, fourBytes}
 use Rattle.model.specs.declared.Entry.{Entry}
+use Rattle.model.specs.declared.Event.{Event}
 use Rattle.model.specs.declared.Event.the-variants.{Wake, Suspend, Dispatch, Preempt, Elapse, Recharge, Lock, Unlock}
-use Rattle.model.specs.Said.{Word, ok, refused}
 use Rattle.trace.specs.declared.Record.{Record}
 use Rattle.trace.specs.declared.Record.the-variants.{Counts, Reservation, Happening}
 use Rattle.trace.specs.declared.Read.{Read}
 use Rattle.trace.specs.declared.Read.the-variants.{Got, End, Fault}
-
--- "All numbers little-endian."
-unfoldable pub twoBytes : List ℕ → ℕ → ℕ
-twoBytes file at = getD file at 0 + 256 * getD file (at + 1) 0
-
-unfoldable pub fourBytes : List ℕ → ℕ → ℕ
-fourBytes file at = twoBytes file at + 65536 * twoBytes file (at + 2)
 
 -- the bytes of a kind's body, 0 for an unknown kind: "Operands are two bytes each, elapse's four."
 unfoldable pub bodyLength : ℕ → ℕ
@@ -36,35 +29,38 @@ bodyLength kind =
     then 10
     else 0
 
-abbrev pub task : List ℕ → ℕ → TaskNo
-task file at = record { 0 = twoBytes file at }
-
-abbrev pub server : List ℕ → ℕ → ServerNo
-server file at = record { 0 = twoBytes file at }
-
 -- "Kind 17: Q, P (four each), declared set (two, bit r for resource r)."
 unfoldable pub entryIn : List ℕ → ℕ → Entry
 entryIn file at = record { quota = fourBytes file at; period = fourBytes file (at + 4); declared = twoBytes file (at + 8) }
 
--- "Kinds 1 to 8: wake, suspend, dispatch, preempt, elapse, recharge, lock, unlock." (for a known kind, with its body at `at`)
+-- "Kinds 1 to 8: wake, suspend, dispatch, preempt, elapse, recharge, lock, unlock."
+abbrev pub isEvent : ℕ → Bool
+isEvent kind = leb 1 kind && leb kind 8
+
+-- the event of an event's kind, from its operands; each kind looks at its own alone
+abbrev pub eventOf : ℕ → ℕ → ℕ → ℕ → Event
+eventOf kind number resource ticks =
+    if eqb kind 1
+    then Wake (record { 0 = number })
+    else if eqb kind 2
+    then Suspend (record { 0 = number })
+    else if eqb kind 3
+    then Dispatch (record { 0 = number })
+    else if eqb kind 4
+    then Preempt (record { 0 = number })
+    else if eqb kind 5
+    then Elapse ticks
+    else if eqb kind 6
+    then Recharge (record { 0 = number })
+    else if eqb kind 7
+    then Lock (record { 0 = number }) resource
+    else Unlock (record { 0 = number }) resource
+
+-- the record of a known kind, with its body at an offset: "Operands are two bytes each, elapse's four."
 unfoldable pub recordIn : ℕ → List ℕ → ℕ → Record
 recordIn kind file at =
-    if eqb kind 1
-    then Happening (Wake (task file at))
-    else if eqb kind 2
-    then Happening (Suspend (task file at))
-    else if eqb kind 3
-    then Happening (Dispatch (server file at))
-    else if eqb kind 4
-    then Happening (Preempt (server file at))
-    else if eqb kind 5
-    then Happening (Elapse (fourBytes file at))
-    else if eqb kind 6
-    then Happening (Recharge (server file at))
-    else if eqb kind 7
-    then Happening (Lock (task file at) (twoBytes file (at + 2)))
-    else if eqb kind 8
-    then Happening (Unlock (task file at) (twoBytes file (at + 2)))
+    if isEvent kind
+    then Happening (eventOf kind (twoBytes file at) (twoBytes file (at + 2)) (fourBytes file at))
     else if eqb kind 16
     then Counts (twoBytes file at) (twoBytes file (at + 2)) (twoBytes file (at + 4))
     else Reservation (entryIn file at)
@@ -89,12 +85,6 @@ readBy (some n) file at = Fault n
 
 unfoldable pub readAt : List ℕ → ℕ → Read
 readAt file at = if leb (length file) at then End else readBy (readFault file at) file at
-
--- what reading says: a record (told as `ok` and its moved place), the file's end (`ok` and 0), or the refusal's number
-abbrev pub saidRead : Read → Word × ℕ
-saidRead (Got r p) = (ok, p .at)
-saidRead End = (ok, 0)
-saidRead (Fault n) = (refused, n)
 
 -- what a file holds from a place on: each reading with its offset, up to the file's end or its first fault. A record is 4 bytes or longer,
 -- so that the file's length is fuel enough (law `items-is`).

@@ -1,12 +1,6 @@
-// What a kind's number fixes: the length of its body, and which record is made of it. Assumes nothing.
+// What a kind's number fixes: the length of its body, whether it is an event's, and which. Assumes nothing.
 ghost use mathlib.Core.Path.{_≡_};
-ghost use Prim.Native.Nat.{_+_, _≤_};
-ghost use lib.ListN.{length};
-ghost use Rattle.trace.specs.Reading.{bodyLength, recordIn};
-use crate::Record;
-use crate::lines::entry_in;
-use crate::numbers::four_bytes;
-use crate::numbers::two_bytes;
+ghost use Rattle.trace.specs.Reading.{bodyLength, isEvent, eventOf};
 use model::Event;
 use model::ServerNo;
 use model::TaskNo;
@@ -24,25 +18,24 @@ pub fn body_length(kind: u16) -> usize
     }
 }
 
-// The record of a known kind, with its body at a place.
-pub fn record_in(kind: u16, file: &[u8], at: usize) -> Record
-    requires { ⌜ (at + bodyLength kind ≤ length (now file)) × (bodyLength kind ≡ 0 → ⊥) ⌝ }
-    ensures { λ r. ⌜ r ≡ recordIn kind (now (file .entry)) at ⌝ }
+pub fn is_event(kind: u16) -> bool
+    ensures { λ r. ⌜ r ≡ isEvent kind ⌝ }
+{
+    if 1 <= kind { kind <= 8 } else { false }
+}
+
+// The event of an event's kind, from its operands; each kind looks at its own alone.
+pub fn event_of(kind: u16, number: u16, resource: u16, ticks: u32) -> Event
+    ensures { λ r. ⌜ r ≡ eventOf kind number resource ticks ⌝ }
 {
     match kind {
-        1 => Record::Happening(Event::Wake(TaskNo(two_bytes(file, at)))),
-        2 => Record::Happening(Event::Suspend(TaskNo(two_bytes(file, at)))),
-        3 => Record::Happening(Event::Dispatch(ServerNo(two_bytes(file, at)))),
-        4 => Record::Happening(Event::Preempt(ServerNo(two_bytes(file, at)))),
-        5 => Record::Happening(Event::Elapse(four_bytes(file, at))),
-        6 => Record::Happening(Event::Recharge(ServerNo(two_bytes(file, at)))),
-        7 => Record::Happening(Event::Lock(TaskNo(two_bytes(file, at)), two_bytes(file, at + 2))),
-        8 => Record::Happening(Event::Unlock(TaskNo(two_bytes(file, at)), two_bytes(file, at + 2))),
-        16 => Record::Counts(
-            two_bytes(file, at),
-            two_bytes(file, at + 2),
-            two_bytes(file, at + 4),
-        ),
-        _ => Record::Reservation(entry_in(file, at)),
+        1 => Event::Wake(TaskNo(number)),
+        2 => Event::Suspend(TaskNo(number)),
+        3 => Event::Dispatch(ServerNo(number)),
+        4 => Event::Preempt(ServerNo(number)),
+        5 => Event::Elapse(ticks),
+        6 => Event::Recharge(ServerNo(number)),
+        7 => Event::Lock(TaskNo(number), resource),
+        _ => Event::Unlock(TaskNo(number), resource),
     }
 }

@@ -2,7 +2,7 @@
 use model::Entry;
 use model::Event;
 
-// A place in a trace, by value: reading answers the record with the next place.
+// A place in a trace, by value, as document 01 has it: the offset of a record. Reading answers the record with the next place.
 pub struct Place {
     pub at: usize,
 }
@@ -25,7 +25,7 @@ pub enum Read {
     Fault(u16),
 }
 
-mod kinds;
+pub mod kinds;
 pub mod lines;
-pub mod numbers;
 mod reading;
+mod records;

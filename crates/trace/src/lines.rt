@@ -1,10 +1,11 @@
-// A task's line of a table, as a trace has it in a record's body. The function is given a place at which the line lies whole in the slice.
+// A task's line of a table, as a trace has it in a record's body. The function is given an offset at which the line lies whole in
+// the slice.
 ghost use mathlib.Core.Path.{_≡_};
 ghost use Prim.Native.Nat.{_+_, _≤_};
 ghost use lib.ListN.{length};
 ghost use Rattle.trace.specs.Reading.{entryIn};
-use crate::numbers::four_bytes;
-use crate::numbers::two_bytes;
+use bytes::numbers::four_bytes;
+use bytes::numbers::two_bytes;
 use model::Entry;
 
 pub fn entry_in(file: &[u8], at: usize) -> Entry

@@ -1,8 +1,9 @@
-//! The families of cases: what each compares, and how many it makes. A case is fixed by the seed,
-//! its family and its number.
+//! The families of cases: what each compares, and how many it makes. First come named cases, each a
+//! stored trace; then seeded ones. A case is fixed by the seed, its family and its number.
 //!
 //! Assumes nothing.
 
+mod named;
 mod states;
 mod tables;
 mod traces;
@@ -27,8 +28,35 @@ const fn family(name: &'static str, size: u64, make: Maker) -> Family {
     Family { name, size, make }
 }
 
+/// A stored text of a trace as a family of one case.
+macro_rules! named {
+    ($name:literal, $file:literal) => {
+        family($name, 1, |_, _, coverage| {
+            named::named(include_bytes!($file), coverage)
+        })
+    };
+}
+
 /// Of the states, 20,000 and more are sound and out of reach from fresh, or break one clause alone.
-pub const FAMILIES: [Family; 9] = [
+pub const FAMILIES: [Family; 15] = [
+    named!("case R", "../../../tools/trace/examples/case-r.txt"),
+    named!(
+        "case 1, pass to a holder",
+        "../cases/1-pass-to-a-holder.txt"
+    ),
+    named!(
+        "case 2, own server recharging",
+        "../cases/2-own-server-recharging.txt"
+    ),
+    named!(
+        "case 3, behind a sleeper",
+        "../cases/3-behind-a-sleeper.txt"
+    ),
+    named!(
+        "case 4, both need a server",
+        "../cases/4-both-need-a-server.txt"
+    ),
+    named!("case 5, three serve one", "../cases/5-three-serve-one.txt"),
     family("made-up sound states", 14_000, states::made_up),
     family("perturbed sound states", 2_500, states::perturbed),
     family("states with one clause broken", 6_300, states::broken),

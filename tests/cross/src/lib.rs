@@ -1,5 +1,6 @@
 //! The cross-check: the proved layer, called through its static library, and the independent second
-//! program answer the same seeded cases, and every answer and every byte left behind is compared.
+//! program answer the same cases, named and seeded, and every answer and every byte left behind is
+//! compared.
 //!
 //! - `sides`: the two sides, as one trait on numbers and bytes;
 //! - `case`: one question to both sides, and what a side is seen to answer;

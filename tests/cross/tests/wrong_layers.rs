@@ -102,6 +102,7 @@ fn every_function_is_compared() {
             "proved: ok 0",
         ),
         (Wrong::Step, "made-up sound states", "resource 15 queue[15]"),
+        (Wrong::Step, "case R", "resource 15 queue[15]"),
         (Wrong::Executing, "made-up sound states", "second: spins"),
         (Wrong::Bound, "section tables", "weighings 5"),
         (Wrong::Replay, "traces", "proved: 3 granted 1"),

@@ -20,7 +20,7 @@ const LONGEST: usize = 100;
 const LONGEST_DAMAGED: usize = 30;
 
 /// A step of the second program, noted.
-fn noted_step(coverage: &mut Coverage, state: &mut State, event: Event) {
+pub fn noted_step(coverage: &mut Coverage, state: &mut State, event: Event) {
     let before = *state;
     let answer = step_sound(state, event);
     coverage.note_step(&before, event, answer, state);
@@ -32,7 +32,7 @@ pub fn any_run(random: &mut Random, longest: usize) -> Run {
     Run::any(random.draw(), length)
 }
 
-fn replay_case(trace: Vec<u8>) -> Case {
+pub fn replay_case(trace: Vec<u8>) -> Case {
     Case::Replay { trace, missing: 0 }
 }
 

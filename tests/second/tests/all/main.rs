@@ -1,6 +1,6 @@
 //! The tests of this program: case R, the examples and slips of document 01, the readings that can
-//! be tested, the stored traces, the table of refusals, the programs, and long random runs.
-//! be tested, the programs, states in bytes, and long random runs.
+//! be tested, the stored traces, the table of refusals, the programs, states in bytes, and long
+//! random runs.
 //!
 //! Assumes nothing. `bench.rs` holds the words that the other files are written in.
 
@@ -19,5 +19,4 @@ mod readings_state;
 mod readings_trace;
 mod refusal_table;
 mod slips;
-mod states;
 mod stored;

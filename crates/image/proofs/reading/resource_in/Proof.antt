@@ -9,14 +9,8 @@ unfolding resourceIn
 resource-in-spec =
     tie.close
     (tie.spec
-    (λ c. search needs)
-    (λ c. search needs)
-    (λ c κs. search needs)
-    (λ c κs. search needs)
-    (λ c. search needs)
-    (λ c κs. search needs)
-    (λ c. search needs)
+    (λ c κs. search needs) (λ c κs. search needs) (λ c. search needs) (λ c κs. search needs) (λ c. search needs)
     (λ c κs. search needs)
     (λ c.
     let owner = c .before .before in
-    rw (owner .owner-of .ensures, owner .before .two-bytes .ensures, c .before .two-bytes2 .ensures, c .queue-in .ensures)))
+    rw (owner .owner-of .ensures, owner .before .tagged-in .ensures, c .before .two-bytes .ensures, c .queue-in .ensures)))

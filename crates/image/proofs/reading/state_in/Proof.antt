@@ -23,23 +23,9 @@ state-in-spec =
     (λ bytes server₀ task₀ resource₀ i₀ server task resource i. 16 - i)
     (λ c κs. search needs)
     (λ c. (omega arith, set-none _ _, set-none _ _, set-none _ _))
-    (λ c. omega arith)
-    (λ c. omega arith)
-    (λ c κs. omega arith)
-    (λ c. omega arith)
-    (λ c. omega arith)
-    (λ c. omega arith)
-    (λ c. omega arith)
-    (λ c κs. omega arith)
-    (λ c. omega arith)
-    (λ c. omega arith)
-    (λ c. omega arith)
-    (λ c. omega arith)
-    (λ c κs. omega arith)
-    (λ c. omega arith)
-    (λ c. omega arith)
-    (λ c. omega arith)
-    (λ c. omega arith)
+    (λ c. omega arith) (λ c. omega arith) (λ c κs. omega arith) (λ c. omega arith) (λ c. omega arith) (λ c. omega arith)
+    (λ c. omega arith) (λ c κs. omega arith) (λ c. omega arith) (λ c. omega arith) (λ c. omega arith) (λ c. omega arith)
+    (λ c κs. omega arith) (λ c. omega arith) (λ c. omega arith) (λ c. omega arith) (λ c. omega arith)
     (λ c.
     let loop = c .before .before .before .before .loop .inv in (
       omega arith,
@@ -47,10 +33,7 @@ state-in-spec =
       set-more _ _ _ _ _ (c .before .task-in .ensures) (loop .2),
       set-more _ _ _ _ _ (c .resource-in .ensures) (loop .3),
     ))
-    (λ c κs. omega arith)
-    (λ c κs. omega arith)
-    (λ c κs. omega arith)
-    (λ c κs. omega arith)
+    (λ c κs. omega arith) (λ c κs. omega arith) (λ c κs. omega arith) (λ c κs. omega arith)
     (λ c.
     let at-loop = c .before .before .before .before .before in
     let inv = at-loop .loop .inv in

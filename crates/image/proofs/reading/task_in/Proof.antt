@@ -9,34 +9,20 @@ unfolding taskIn
 task-in-spec =
     tie.close
     (tie.spec
-    (λ c. search needs)
-    (λ c. search needs)
-    (λ c κs. search needs)
-    (λ c κs. search needs)
-    (λ c. search needs)
-    (λ c. search needs)
-    (λ c. search needs)
-    (λ c κs. search needs)
-    (λ c κs. search needs)
-    (λ c. search needs)
-    (λ c κs. search needs)
-    (λ c. search needs)
-    (λ c κs. search needs)
-    (λ c. search needs)
-    (λ c κs. search needs)
-    (λ c. search needs)
-    (λ c κs. search needs)
+    (λ c κs. search needs) (λ c κs. search needs) (λ c. search needs) (λ c κs. search needs) (λ c κs. search needs)
+    (λ c. search needs) (λ c κs. search needs) (λ c. search needs) (λ c κs. search needs) (λ c. search needs)
+    (λ c κs. search needs) (λ c. search needs) (λ c κs. search needs)
     (λ c.
     let depth = c .before .before in
     let runs = depth .before .before in
-    let mode = runs .before .before .before in
+    let mode = runs .before .before in
     rw (
       mode .mode-of .ensures,
-      mode .before .two-bytes .ensures,
+      mode .before .tagged-in .ensures,
       runs .runs-of .ensures,
-      runs .before .two-bytes2 .ensures,
-      depth .before .two-bytes3 .ensures,
-      depth .two-bytes4 .ensures,
+      runs .before .tagged-in2 .ensures,
+      depth .before .two-bytes .ensures,
+      depth .two-bytes2 .ensures,
       c .before .four-bytes .ensures,
       c .held-in .ensures,
     )))

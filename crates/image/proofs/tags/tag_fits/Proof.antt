@@ -8,5 +8,5 @@ tag-fits-spec =
     tie.close
     (tie.spec
     (λ c. rw (eq-eqb _ _ (c .if1 .taken)))
-    (λ c. rw (ne-eqb _ _ (c .before .if1 .left), lt-ltb _ _ (c .if2 .taken)))
-    (λ c. rw (ne-eqb _ _ (c .before .if1 .left), le-ltb _ _ (c .if2 .left))))
+    (λ c. let less = c .before in rw (ne-eqb _ _ (less .before .before .if1 .left), lt-ltb _ _ (less .if2 .taken)))
+    (λ c. rw (ne-eqb _ _ (c .before .before .if1 .left), le-ltb _ _ (c .if2 .left))))

@@ -25,8 +25,7 @@ is-image-spec =
     let turn = c .before .before in
     and-yes _ _ _ (eq-eqb _ _ (turn .before .before .if1 .left))
     (all-fails _ _ _ (turn .loop-test .taken) (sym (not-true _ (c .if2 .taken)) ∙ c .before .entries-fit .ensures)))
-    (λ c. omega arith)
-    (λ c. omega arith)
+    (λ c. omega arith) (λ c. omega arith)
     (λ c. (
       omega arith,
       all-more _ _ (sym (not-false _ (c .if2 .left)) ∙ c .before .entries-fit .ensures) (c .before .before .before .loop .inv .1),

@@ -10,8 +10,5 @@ unfolding taggedFits
 tagged-fits-spec =
     tie.close
     (tie.spec
-    (λ c. search needs)
-    (λ c. search needs)
-    (λ c κs. search needs)
-    (λ c κs. search needs)
-    (λ c. c .tag-fits .ensures ∙ rw (c .before .two-bytes .ensures)))
+    (λ c κs. search needs) (λ c κs. search needs)
+    (λ c. c .tag-fits .ensures ∙ rw (c .before .tagged-in .ensures)))

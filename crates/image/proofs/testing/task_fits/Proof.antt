@@ -11,8 +11,6 @@ unfolding taskFits
 task-fits-spec =
     tie.close
     (tie.spec
-    (λ c κs. search needs)
-    (λ c. search needs)
-    (λ c κs. search needs)
+    (λ c κs. search needs) (λ c. search needs) (λ c κs. search needs)
     (λ c. and-yes _ _ _ (sym (c .before .before .tagged-fits .ensures) ∙ c .before .if1 .taken) (c .tagged-fits2 .ensures))
     (λ c. and-no _ _ (sym (c .before .tagged-fits .ensures) ∙ c .if1 .left)))

@@ -2,7 +2,8 @@
 use Prim.Native.Nat.{_-_}
 use native.Mathlib.Omega.{arith}
 use Rattle.image.specs.Encoded.{entries, entryBytes, noTaskNo, taskNoBytes}
-use Rattle.image.proofs.Puts.{Filled, filled-none, filled-more, filled-done, two-long}
+use Rattle.bytes.proofs.Codec.{two-long}
+use Rattle.bytes.proofs.Parts.{Filled, filled-none, filled-more, filled-done}
 use Rattle.image.proofs.writing.put_queue.Statement.{statement}
 use Rattle.image.proofs.writing.put_queue.Tie as tie
 
@@ -11,15 +12,10 @@ unfolding entries entryBytes taskNoBytes
 put-queue-spec =
     tie.close
     (tie.spec
-    (λ bytes₀ at queue i₀ bytes i. Filled (entryBytes taskNoBytes noTaskNo queue) bytes₀ at bytes i)
+    (λ bytes₀ at queue i₀ bytes i. Filled 16 (entryBytes taskNoBytes noTaskNo queue) bytes₀ at bytes i)
     (λ bytes₀ at queue i₀ bytes i. 16 - i)
-    (λ c. filled-none _ _ _)
-    (λ c. omega arith)
-    (λ c. omega arith)
-    (λ c. omega arith)
-    (λ c. omega arith)
-    (λ c κs. omega arith)
-    (λ c. omega arith)
+    (λ c. filled-none _ _ _ _)
+    (λ c. omega arith) (λ c. omega arith) (λ c. omega arith) (λ c. omega arith) (λ c κs. omega arith) (λ c. omega arith)
     (λ c. omega arith)
     (λ c.
     let put = c .before .before in

@@ -3,7 +3,8 @@ use mathlib.Core.Path.{refl}
 use borrow.Author.Needs.{needs}
 use Rattle.image.specs.Encoded.{resourceBytes}
 use Rattle.image.proofs.Parts.{tagged-long, queue-long}
-use Rattle.image.proofs.Puts.{first, next, two-long}
+use Rattle.bytes.proofs.Codec.{two-long}
+use Rattle.bytes.proofs.Parts.{first, next}
 use Rattle.image.proofs.writing.put_resource.Statement.{statement}
 use Rattle.image.proofs.writing.put_resource.Tie as tie
 
@@ -12,19 +13,12 @@ unfolding resourceBytes
 put-resource-spec =
     tie.close
     (tie.spec
-    (λ c κs. search needs)
-    (λ c κs. search needs)
-    (λ c κs. search needs)
-    (λ c. search needs)
-    (λ c κs. search needs)
-    (λ c. search needs)
-    (λ c κs. search needs)
-    (λ c. search needs)
+    (λ c κs. search needs) (λ c κs. search needs) (λ c. search needs) (λ c κs. search needs) (λ c. search needs)
+    (λ c κs. search needs) (λ c. search needs)
     (λ c.
     let queue = c .before .before in
     let waiting = queue .before .before .before .before in
     let owner = waiting .before .before .before .before in
-    let w0 = first (owner .put-tagged .ensures) (tagged-long _ _) in
+    let w0 = first (owner .put-tagged .ensures) (tagged-long _) in
     let w1 = next w0 _ _ (waiting .put-two .ensures) (two-long _) refl in
-    rw (← (owner .before .before .owner-tag .ensures), ← (owner .before .owner-number .ensures))
-    (next w1 _ _ (queue .put-queue .ensures) (queue-long _) refl .done)))
+    rw (← (owner .before .owner-tagged .ensures)) (next w1 _ _ (queue .put-queue .ensures) (queue-long _) refl .done)))

@@ -4,7 +4,7 @@ use native.Mathlib.Omega.{arith}
 use Rattle.model.specs.State.{noResource}
 use Rattle.image.specs.Encoded.{entries, entryBytes, resourceBytes}
 use Rattle.image.proofs.Parts.{resource-codec}
-use Rattle.image.proofs.Puts.{Filled, filled-none, filled-more, filled-done}
+use Rattle.bytes.proofs.Parts.{Filled, filled-none, filled-more, filled-done}
 use Rattle.image.proofs.writing.put_resources.Statement.{statement}
 use Rattle.image.proofs.writing.put_resources.Tie as tie
 
@@ -13,15 +13,10 @@ unfolding entries entryBytes
 put-resources-spec =
     tie.close
     (tie.spec
-    (λ bytes₀ resources i₀ bytes i. Filled (entryBytes resourceBytes noResource resources) bytes₀ 1210 bytes i)
+    (λ bytes₀ resources i₀ bytes i. Filled 16 (entryBytes resourceBytes noResource resources) bytes₀ 1210 bytes i)
     (λ bytes₀ resources i₀ bytes i. 16 - i)
-    (λ c. filled-none _ _ _)
-    (λ c. omega arith)
-    (λ c. omega arith)
-    (λ c. omega arith)
-    (λ c. omega arith)
-    (λ c κs. omega arith)
-    (λ c. omega arith)
+    (λ c. filled-none _ _ _ _)
+    (λ c. omega arith) (λ c. omega arith) (λ c. omega arith) (λ c. omega arith) (λ c κs. omega arith) (λ c. omega arith)
     (λ c. omega arith)
     (λ c.
     let put = c .before .before in

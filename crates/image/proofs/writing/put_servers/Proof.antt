@@ -4,7 +4,7 @@ use native.Mathlib.Omega.{arith}
 use Rattle.model.specs.State.{noServer}
 use Rattle.image.specs.Encoded.{entries, entryBytes, serverBytes}
 use Rattle.image.proofs.Parts.{server-codec}
-use Rattle.image.proofs.Puts.{Filled, filled-none, filled-more, filled-done}
+use Rattle.bytes.proofs.Parts.{Filled, filled-none, filled-more, filled-done}
 use Rattle.image.proofs.writing.put_servers.Statement.{statement}
 use Rattle.image.proofs.writing.put_servers.Tie as tie
 
@@ -13,15 +13,10 @@ unfolding entries entryBytes
 put-servers-spec =
     tie.close
     (tie.spec
-    (λ bytes₀ servers i₀ bytes i. Filled (entryBytes serverBytes noServer servers) bytes₀ 10 bytes i)
+    (λ bytes₀ servers i₀ bytes i. Filled 16 (entryBytes serverBytes noServer servers) bytes₀ 10 bytes i)
     (λ bytes₀ servers i₀ bytes i. 16 - i)
-    (λ c. filled-none _ _ _)
-    (λ c. omega arith)
-    (λ c. omega arith)
-    (λ c. omega arith)
-    (λ c. omega arith)
-    (λ c κs. omega arith)
-    (λ c. omega arith)
+    (λ c. filled-none _ _ _ _)
+    (λ c. omega arith) (λ c. omega arith) (λ c. omega arith) (λ c. omega arith) (λ c κs. omega arith) (λ c. omega arith)
     (λ c. omega arith)
     (λ c.
     let put = c .before .before in

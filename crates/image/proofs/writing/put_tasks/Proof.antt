@@ -4,7 +4,7 @@ use native.Mathlib.Omega.{arith}
 use Rattle.model.specs.State.{noTask}
 use Rattle.image.specs.Encoded.{entries, entryBytes, taskBytes}
 use Rattle.image.proofs.Parts.{task-codec}
-use Rattle.image.proofs.Puts.{Filled, filled-none, filled-more, filled-done}
+use Rattle.bytes.proofs.Parts.{Filled, filled-none, filled-more, filled-done}
 use Rattle.image.proofs.writing.put_tasks.Statement.{statement}
 use Rattle.image.proofs.writing.put_tasks.Tie as tie
 
@@ -13,15 +13,10 @@ unfolding entries entryBytes
 put-tasks-spec =
     tie.close
     (tie.spec
-    (λ bytes₀ tasks i₀ bytes i. Filled (entryBytes taskBytes noTask tasks) bytes₀ 474 bytes i)
+    (λ bytes₀ tasks i₀ bytes i. Filled 16 (entryBytes taskBytes noTask tasks) bytes₀ 474 bytes i)
     (λ bytes₀ tasks i₀ bytes i. 16 - i)
-    (λ c. filled-none _ _ _)
-    (λ c. omega arith)
-    (λ c. omega arith)
-    (λ c. omega arith)
-    (λ c. omega arith)
-    (λ c κs. omega arith)
-    (λ c. omega arith)
+    (λ c. filled-none _ _ _ _)
+    (λ c. omega arith) (λ c. omega arith) (λ c. omega arith) (λ c. omega arith) (λ c κs. omega arith) (λ c. omega arith)
     (λ c. omega arith)
     (λ c.
     let put = c .before .before in

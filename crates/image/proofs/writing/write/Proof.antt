@@ -5,7 +5,8 @@ use borrow.Author.Needs.{needs}
 use Rattle.image.specs.Encoded.{encoded}
 use Rattle.image.proofs.Parts.{servers-long, tasks-long, resources-long}
 use Rattle.image.proofs.Image.{write-whole, write-none}
-use Rattle.image.proofs.Puts.{first, next, two-long, four-long}
+use Rattle.bytes.proofs.Codec.{two-long, four-long}
+use Rattle.bytes.proofs.Parts.{first, next}
 use Rattle.image.proofs.writing.write.Statement.{statement}
 use Rattle.image.proofs.writing.write.Tie as tie
 
@@ -15,14 +16,8 @@ write-spec =
     tie.close
     (tie.spec
     (λ c. (sym (ne-eqb _ _ (c .if1 .taken)), write-none _ _ (c .if1 .taken)))
-    (λ c κs. search needs)
-    (λ c κs. search needs)
-    (λ c κs. search needs)
-    (λ c κs. search needs)
-    (λ c κs. search needs)
-    (λ c κs. search needs)
-    (λ c κs. search needs)
-    (λ c. search needs)
+    (λ c κs. search needs) (λ c κs. search needs) (λ c κs. search needs) (λ c κs. search needs) (λ c κs. search needs)
+    (λ c κs. search needs) (λ c κs. search needs) (λ c. search needs)
     (λ c.
     let resource = c .before .before in
     let task = resource .before .before .before .before in

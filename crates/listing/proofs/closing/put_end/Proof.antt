@@ -1,8 +1,9 @@
 -- `listing::closing::put_end` meets its contract. Assumes nothing.
 use borrow.Author.Needs.{needs}
-use Rattle.listing.specs.Text.{bytes, newline}
+use Rattle.bytes.specs.Text.{bytes}
+use Rattle.listing.specs.Text.{newline}
 use Rattle.listing.specs.Listing.{endLines}
-use Rattle.listing.proofs.Writing.{wrote-then}
+use Rattle.bytes.proofs.Writing.{wrote-then}
 use Rattle.listing.proofs.closing.put_end.Statement.{statement}
 use Rattle.listing.proofs.closing.put_end.Tie as tie
 
@@ -11,14 +12,8 @@ unfolding endLines newline bytes
 put-end-spec =
     tie.close
     (tie.spec
-    (λ c. search needs)
-    (λ c. search needs)
-    (λ c κs. search needs)
-    (λ c. search needs)
-    (λ c κs. search needs)
-    (λ c κs. search needs)
-    (λ c κs. search needs)
-    (λ c. search needs)
+    (λ c. search needs) (λ c. search needs) (λ c κs. search needs) (λ c. search needs) (λ c κs. search needs)
+    (λ c κs. search needs) (λ c κs. search needs) (λ c. search needs)
     (λ c.
     let tasks = c .before .before in
     let servers = tasks .before .before .before .before in

@@ -7,7 +7,7 @@ use native.Mathlib.Omega.{arith}
 use Rattle.laws.specs.Loops.{joinTo}
 use Rattle.model.specs.State.{here}
 use Rattle.listing.specs.Listing.{serverLine}
-use Rattle.listing.specs.Writing.{Wrote}
+use Rattle.bytes.specs.Writing.{Wrote}
 use Rattle.listing.proofs.InUse.{lines-none, lines-more, lines-skip, lines-done, server-line, no-server}
 use Rattle.listing.proofs.closing.put_servers.Statement.{statement}
 use Rattle.listing.proofs.closing.put_servers.Tie as tie
@@ -20,11 +20,7 @@ put-servers-spec =
     (λ out₀ at st tasks next₀ s₀ out next s. (s ≤ 16) × Wrote (144 * s) out₀ at (joinTo s (serverLine st)) out next)
     (λ out₀ at st tasks next₀ s₀ out next s. 16 - s)
     (λ c. (omega arith, lines-none 144 _ _ _))
-    (λ c κs. search needs)
-    (λ c. omega arith)
-    (λ c. omega arith)
-    (λ c κs. omega arith)
-    (λ c. omega arith)
+    (λ c κs. search needs) (λ c. omega arith) (λ c. omega arith) (λ c κs. omega arith) (λ c. omega arith)
     (λ c. omega arith)
     (λ c.
     let loop = c .before .before .before .loop in

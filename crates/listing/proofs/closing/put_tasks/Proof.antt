@@ -7,7 +7,7 @@ use native.Mathlib.Omega.{arith}
 use Rattle.laws.specs.Loops.{joinTo}
 use Rattle.model.specs.State.{here}
 use Rattle.listing.specs.Listing.{taskLine}
-use Rattle.listing.specs.Writing.{Wrote}
+use Rattle.bytes.specs.Writing.{Wrote}
 use Rattle.listing.proofs.InUse.{lines-none, lines-more, lines-skip, lines-done, task-line, no-task}
 use Rattle.listing.proofs.closing.put_tasks.Statement.{statement}
 use Rattle.listing.proofs.closing.put_tasks.Tie as tie
@@ -20,11 +20,7 @@ put-tasks-spec =
     (λ out₀ at st tasks next₀ t₀ out next t. (t ≤ 16) × Wrote (47 * t) out₀ at (joinTo t (taskLine st)) out next)
     (λ out₀ at st tasks next₀ t₀ out next t. 16 - t)
     (λ c. (omega arith, lines-none 47 _ _ _))
-    (λ c κs. search needs)
-    (λ c. omega arith)
-    (λ c. omega arith)
-    (λ c κs. omega arith)
-    (λ c. omega arith)
+    (λ c κs. search needs) (λ c. omega arith) (λ c. omega arith) (λ c κs. omega arith) (λ c. omega arith)
     (λ c. omega arith)
     (λ c.
     let loop = c .before .before .before .loop in

@@ -1,8 +1,9 @@
 -- `listing::lines::put_event` meets its contract. Assumes nothing.
 use borrow.Author.Needs.{needs}
-use Rattle.listing.specs.Text.{bytes, newline}
+use Rattle.bytes.specs.Text.{bytes}
+use Rattle.listing.specs.Text.{newline}
 use Rattle.listing.specs.Listing.{eventLine}
-use Rattle.listing.proofs.Writing.{wrote-then, wrote-pair}
+use Rattle.bytes.proofs.Writing.{wrote-then, wrote-pair}
 use Rattle.listing.proofs.lines.put_event.Statement.{statement}
 use Rattle.listing.proofs.lines.put_event.Tie as tie
 
@@ -11,13 +12,8 @@ unfolding eventLine newline bytes
 put-event-spec =
     tie.close
     (tie.spec
-    (λ c κs. search needs)
-    (λ c. search needs)
-    (λ c κs. search needs)
-    (λ c κs. search needs)
-    (λ c. search needs)
-    (λ c κs. search needs)
-    (λ c. search needs)
+    (λ c κs. search needs) (λ c. search needs) (λ c κs. search needs) (λ c κs. search needs) (λ c. search needs)
+    (λ c κs. search needs) (λ c. search needs)
     (λ c.
     let line-end = c .before .before in
     let answer = line-end .before .before .before .before .before in

@@ -1,6 +1,6 @@
 -- `listing::lines::put_stop` meets its contract. Assumes nothing.
 use borrow.Author.Needs.{needs}
-use Rattle.listing.specs.Text.{bytes}
+use Rattle.bytes.specs.Text.{bytes}
 use Rattle.listing.specs.Listing.{stopLine}
 use Rattle.listing.proofs.lines.put_stop.Statement.{statement}
 use Rattle.listing.proofs.lines.put_stop.Tie as tie
@@ -10,7 +10,5 @@ unfolding stopLine bytes
 put-stop-spec =
     tie.close
     (tie.spec
-    (λ c. search needs)
-    (λ c κs. search needs)
-    (λ c. search needs)
+    (λ c. search needs) (λ c κs. search needs) (λ c. search needs)
     (λ c. c .before .before .put-line .ensures))

@@ -6,8 +6,8 @@ use native.Mathlib.Omega.{arith}
 use lib.ListN.{length}
 use Rattle.trace.specs.declared.Read.the-variants.{Got}
 use Rattle.listing.specs.Replay.{room}
-use Rattle.listing.specs.Parts.{textFrom, running}
-use Rattle.listing.proofs.Writing.{wrote-as}
+use Rattle.listing.specs.Computed.{textFrom, running}
+use Rattle.bytes.proofs.Writing.{wrote-as}
 use Rattle.listing.proofs.Stages.{Begun, begun-none, begun-most, begun-unread, begun-wrong, begun-refused, begun-made, begun-more, begun-accepted, begun-done}
 use Rattle.listing.proofs.table.put_from_entries.Statement.{statement}
 use Rattle.listing.proofs.table.put_from_entries.Tie as tie
@@ -21,9 +21,7 @@ put-from-entries-spec =
     Begun file processors tasks resources (place₀ .at) entry (place .at) k × (out ≡ out₀) × (length out ≡ length out₀))
     (λ file out₀ processors tasks resources entry₀ place₀ k₀ out entry place k. tasks - k)
     (λ c. (begun-none (c .before .before .pre .1 .0) (c .before .before .pre .0), refl, refl))
-    (λ c κs. search needs)
-    (λ c. search needs)
-    (λ c κs. search needs)
+    (λ c κs. search needs) (λ c. search needs) (λ c κs. search needs)
     (λ c κs. let head = c .before .before .before .before .before in omega (arith, head .loop .inv .2, head .before .before .before .pre .1 .1))
     (λ c. search needs)
     (λ c.
@@ -50,10 +48,7 @@ put-from-entries-spec =
     (λ c. omega (arith, begun-most (c .before .before .before .before .before .before .before .before .loop .inv .0)))
     (λ c. omega (arith, begun-most (c .before .before .before .before .before .before .before .before .loop .inv .0)))
     (λ c. omega (arith, begun-most (c .before .before .before .before .before .before .before .before .loop .inv .0)))
-    (λ c κs. search needs)
-    (λ c. search needs)
-    (λ c. search needs)
-    (λ c κs. search needs)
+    (λ c κs. search needs) (λ c. search needs) (λ c. search needs) (λ c κs. search needs)
     (λ c κs. let head = c .before .before .before .before .before .before .before .before .before .before .before .before .before in omega (arith, head .loop .inv .2, head .before .before .before .pre .1 .1))
     (λ c. search needs)
     (λ c.

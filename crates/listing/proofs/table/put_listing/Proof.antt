@@ -5,7 +5,7 @@ use native.Mathlib.Omega.{arith}
 use Rattle.trace.specs.declared.Read.the-variants.{Got}
 use Rattle.trace.proofs.Items.{read-moves}
 use Rattle.listing.specs.Replay.{room}
-use Rattle.listing.proofs.Writing.{wrote-as}
+use Rattle.bytes.proofs.Writing.{wrote-as}
 use Rattle.listing.proofs.Stages.{counts-unread, counts-wrong, counts-stop, counts-good, counts-text}
 use Rattle.listing.proofs.table.put_listing.Statement.{statement}
 use Rattle.listing.proofs.table.put_listing.Tie as tie
@@ -15,9 +15,7 @@ unfolding room
 put-listing-spec =
     tie.close
     (tie.spec
-    (λ c κs. search needs)
-    (λ c. search needs)
-    (λ c κs. search needs)
+    (λ c κs. search needs) (λ c. search needs) (λ c κs. search needs)
     (λ c κs. omega (arith, c .before .before .before .before .before .before .pre))
     (λ c. search needs)
     (λ c.
@@ -38,10 +36,7 @@ put-listing-spec =
     wrote-as (omega arith) refl
     (counts-wrong _ (told .read2 .given .0 .0) _ (sym (read .read .ensures) ∙ told .read2 .given .1) (other .match2 .keys2))
     (call .put-stop2 .ensures))
-    (λ c κs. search needs)
-    (λ c. search needs)
-    (λ c. search needs)
-    (λ c κs. search needs)
+    (λ c κs. search needs) (λ c. search needs) (λ c. search needs) (λ c κs. search needs)
     (λ c κs. omega (arith, c .before .before .before .before .before .before .before .before .before .before .before .before .before .before .pre))
     (λ c. search needs)
     (λ c.

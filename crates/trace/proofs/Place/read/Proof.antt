@@ -14,18 +14,14 @@ read-spec =
     (λ c. read-end _ _ (c .if1 .taken))
     (λ c. search needs)
     (λ c. read-stray _ _ (c .before .if1 .left) (c .if2 .taken))
-    (λ c κs. search needs)
-    (λ c. search needs)
+    (λ c κs. search needs) (λ c. search needs)
     (λ c. let e = c .before .before in read-small _ _ (e .before .if1 .left) (e .if2 .left) _ (c .before .two-bytes .ensures) (c .if3 .taken))
-    (λ c. search needs)
-    (λ c. search needs)
+    (λ c. search needs) (λ c. search needs)
     (λ c.
     let f = c .before .before in
     let e = f .before in
     read-cut _ _ (e .before .if1 .left) (e .if2 .left) _ (f .two-bytes .ensures) (c .before .if3 .left) (c .if4 .taken))
-    (λ c. search needs)
-    (λ c κs. search needs)
-    (λ c κs. search needs)
+    (λ c. search needs) (λ c κs. search needs) (λ c κs. search needs)
     (λ c.
     let k = c .before .before in
     let f = k .before in
@@ -41,8 +37,7 @@ read-spec =
     read-wrong _ _ (e .before .if1 .left) (e .if2 .left) _ (n .two-bytes .ensures) (f .before .if3 .left) (f .if4 .left) _ (k .two-bytes2 .ensures) _ (c .before .before .body-length .ensures) (c .before .if5 .left) (c .if6 .taken))
     (λ c. search needs)
     (λ c κs. (omega (arith, c .before .before .body-length .ensures), λ z. c .before .if5 .left (c .before .before .body-length .ensures ∙ z)))
-    (λ c. search needs)
-    (λ c. search needs)
+    (λ c. search needs) (λ c. search needs)
     (λ c.
     let k = c .before .before .before .before in
     let f = k .before in

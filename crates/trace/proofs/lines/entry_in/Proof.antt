@@ -9,9 +9,5 @@ unfolding entryIn
 entry-in-spec =
     tie.close
     (tie.spec
-    (λ c κs. search needs)
-    (λ c. search needs)
-    (λ c κs. search needs)
-    (λ c. search needs)
-    (λ c κs. search needs)
+    (λ c κs. search needs) (λ c. search needs) (λ c κs. search needs) (λ c. search needs) (λ c κs. search needs)
     (λ c. rw (c .before .before .four-bytes .ensures, c .before .four-bytes2 .ensures, c .two-bytes .ensures)))

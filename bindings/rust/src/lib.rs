@@ -1,0 +1,162 @@
+//! A safe wrapper over the static library (`rt staticlib vesztamor`). The proved functions take any bytes and any numbers, so nothing is tested here:
+//! the wrapper only turns slices into pointers and lengths, and answers back into words. Layouts: `docs/STATE.md`.
+//!
+//! A [`State`] is plain bytes. Where several processors share one, keep it behind one lock (a `Mutex<State>`, or the kernel's own): the library keeps
+//! nothing between calls and waits for nothing.
+
+/// The bytes of a state.
+pub const STATE_BYTES: usize = 1802;
+/// The bytes of a bound: the bound in eight, the weighings in four.
+pub const BOUND_BYTES: usize = 12;
+
+mod library {
+    extern "C" {
+        pub fn vesztamor_fresh(table: *const u8, table_length: usize, state: *mut u8, state_length: usize) -> u64;
+        pub fn vesztamor_is_sound(state: *const u8, state_length: usize) -> u64;
+        pub fn vesztamor_step(state: *mut u8, state_length: usize, kind: u16, number: u16, resource: u16, ticks: u32) -> u64;
+        pub fn vesztamor_executing(state: *const u8, state_length: usize, server: u16) -> u64;
+        pub fn vesztamor_bound(sections: *const u8, sections_length: usize, task: u16, allowance: u32, out: *mut u8, out_length: usize) -> u64;
+        pub fn vesztamor_replay(trace: *const u8, trace_length: usize, out: *mut u8, out_length: usize) -> u64;
+    }
+}
+
+/// What a call answers: a word of document 01 and its number.
+#[derive(Clone, Copy, Debug, PartialEq, Eq, Hash)]
+pub enum Answer {
+    Ok(u32),
+    Executes(u32),
+    Spins(u32),
+    Granted(u32),
+    Waits(u32),
+    Passed(u32),
+    Freed(u32),
+    Refused(u32),
+}
+
+impl Answer {
+    /// The answer that a packed number stands for.
+    pub fn of(packed: u64) -> Answer {
+        let number = packed as u32;
+        match packed >> 32 {
+            0 => Answer::Ok(number),
+            1 => Answer::Executes(number),
+            2 => Answer::Spins(number),
+            3 => Answer::Granted(number),
+            4 => Answer::Waits(number),
+            5 => Answer::Passed(number),
+            6 => Answer::Freed(number),
+            _ => Answer::Refused(number),
+        }
+    }
+}
+
+#[derive(Clone, Copy, Debug, PartialEq, Eq, Hash)]
+pub enum Event {
+    Wake { task: u16 },
+    Suspend { task: u16 },
+    Dispatch { server: u16 },
+    Preempt { server: u16 },
+    Elapse { ticks: u32 },
+    Recharge { server: u16 },
+    Lock { task: u16, resource: u16 },
+    Unlock { task: u16, resource: u16 },
+}
+
+/// A state in its bytes. Any bytes may be given; those that no state has are refused with number 1.
+#[derive(Clone, PartialEq, Eq, Hash)]
+pub struct State {
+    pub bytes: [u8; STATE_BYTES],
+}
+
+impl State {
+    /// The fresh state of a table in bytes, or the refusal's number.
+    pub fn fresh(table: &[u8]) -> Result<State, u32> {
+        let mut state = State { bytes: [0; STATE_BYTES] };
+        match fresh_into(table, &mut state.bytes) {
+            Answer::Refused(number) => Err(number),
+            _ => Ok(state),
+        }
+    }
+
+    pub fn is_sound(&self) -> bool {
+        is_sound(&self.bytes) == Answer::Ok(0)
+    }
+
+    /// One event. A refusal leaves the state as it was.
+    pub fn step(&mut self, event: Event) -> Answer {
+        let (kind, number, resource, ticks) = match event {
+            Event::Wake { task } => (1, task, 0, 0),
+            Event::Suspend { task } => (2, task, 0, 0),
+            Event::Dispatch { server } => (3, server, 0, 0),
+            Event::Preempt { server } => (4, server, 0, 0),
+            Event::Elapse { ticks } => (5, 0, 0, ticks),
+            Event::Recharge { server } => (6, server, 0, 0),
+            Event::Lock { task, resource } => (7, task, resource, 0),
+            Event::Unlock { task, resource } => (8, task, resource, 0),
+        };
+        step(&mut self.bytes, kind, number, resource, ticks)
+    }
+
+    /// What a server is doing: it executes a task, spins for one, or (`Ok(0)`) is not Running.
+    pub fn executing(&self, server: u16) -> Answer {
+        executing(&self.bytes, server)
+    }
+}
+
+/// The fresh state of a table, into the bytes lent for it.
+pub fn fresh_into(table: &[u8], state: &mut [u8]) -> Answer {
+    Answer::of(unsafe { library::vesztamor_fresh(table.as_ptr(), table.len(), state.as_mut_ptr(), state.len()) })
+}
+
+/// Whether the bytes hold a sound state: `Ok(0)` or `Refused(1)`.
+pub fn is_sound(state: &[u8]) -> Answer {
+    Answer::of(unsafe { library::vesztamor_is_sound(state.as_ptr(), state.len()) })
+}
+
+/// One event on the state in the bytes, by the kind's number of a trace.
+pub fn step(state: &mut [u8], kind: u16, number: u16, resource: u16, ticks: u32) -> Answer {
+    Answer::of(unsafe { library::vesztamor_step(state.as_mut_ptr(), state.len(), kind, number, resource, ticks) })
+}
+
+/// What a server is doing in the state in the bytes.
+pub fn executing(state: &[u8], server: u16) -> Answer {
+    Answer::of(unsafe { library::vesztamor_executing(state.as_ptr(), state.len(), server) })
+}
+
+/// The bound of a task and the weighings spent on it, or the refusal's number.
+pub fn bound(sections: &[u8], task: u16, allowance: u32) -> Result<(u64, u32), u32> {
+    let mut out = [0u8; BOUND_BYTES];
+    let answer = unsafe { library::vesztamor_bound(sections.as_ptr(), sections.len(), task, allowance, out.as_mut_ptr(), out.len()) };
+    match Answer::of(answer) {
+        Answer::Refused(number) => Err(number),
+        _ => {
+            let mut bound = [0u8; 8];
+            let mut weighings = [0u8; 4];
+            bound.copy_from_slice(&out[..8]);
+            weighings.copy_from_slice(&out[8..]);
+            Ok((u64::from_le_bytes(bound), u32::from_le_bytes(weighings)))
+        }
+    }
+}
+
+/// The room that the listing of a trace of so many bytes may need.
+pub fn text_bytes(trace: usize) -> usize {
+    13 * trace + 4000
+}
+
+/// The listing of a trace into a buffer: how long its text is, or `None`, and nothing written, where the buffer is shorter than [`text_bytes`].
+pub fn replay_into(trace: &[u8], out: &mut [u8]) -> Option<usize> {
+    let answer = unsafe { library::vesztamor_replay(trace.as_ptr(), trace.len(), out.as_mut_ptr(), out.len()) };
+    match Answer::of(answer) {
+        Answer::Ok(length) => Some(length as usize),
+        _ => None,
+    }
+}
+
+/// The listing of a trace.
+pub fn replay(trace: &[u8]) -> Vec<u8> {
+    let mut out = vec![0u8; text_bytes(trace.len())];
+    let length = replay_into(trace, &mut out).unwrap_or(0);
+    out.truncate(length);
+    out
+}

@@ -1,0 +1,119 @@
+/* The functions of the static library, for C. What each one does, byte for byte, is the contract of its source in crates/vesztamor; the layouts of
+ * states and tables are in docs/STATE.md.
+ *
+ * Memory that is lent is a pointer and a length, in bytes. A function reads and writes nothing else, keeps nothing between calls, and takes any
+ * bytes and any numbers: there is nothing to ensure before a call but that the memory is there and that no two lent parts overlap. A pointer may
+ * not be null, also where the length is 0.
+ *
+ * A state that several processors share is to be used under one lock of the kernel: take it around each call, and nothing in the library waits.
+ *
+ * An answer is one number: its word in the upper 32 bits, its number in the lower 32. A refusal writes nothing. */
+#ifndef VESZTAMOR_H
+#define VESZTAMOR_H
+
+#include <stddef.h>
+#include <stdint.h>
+
+#ifdef __cplusplus
+extern "C" {
+#endif
+
+/* the bytes of a state */
+#define VESZTAMOR_STATE_BYTES 1802
+/* the bytes of a table of so many tasks, of a table of so many sections, and of a bound */
+#define VESZTAMOR_TABLE_BYTES(tasks) (6 + 10 * (size_t)(tasks))
+#define VESZTAMOR_SECTIONS_BYTES(sections) (4 + 9 * (size_t)(sections))
+#define VESZTAMOR_BOUND_BYTES 12
+/* the bytes that a replay's text may need, for a trace of so many bytes */
+#define VESZTAMOR_TEXT_BYTES(trace) (13 * (size_t)(trace) + 4000)
+
+enum vesztamor_word {
+    VESZTAMOR_OK = 0,
+    VESZTAMOR_EXECUTES = 1,
+    VESZTAMOR_SPINS = 2,
+    VESZTAMOR_GRANTED = 3,
+    VESZTAMOR_WAITS = 4,
+    VESZTAMOR_PASSED = 5,
+    VESZTAMOR_FREED = 6,
+    VESZTAMOR_REFUSED = 7
+};
+
+/* the events' kinds, as in a trace */
+enum vesztamor_kind {
+    VESZTAMOR_WAKE = 1,
+    VESZTAMOR_SUSPEND = 2,
+    VESZTAMOR_DISPATCH = 3,
+    VESZTAMOR_PREEMPT = 4,
+    VESZTAMOR_ELAPSE = 5,
+    VESZTAMOR_RECHARGE = 6,
+    VESZTAMOR_LOCK = 7,
+    VESZTAMOR_UNLOCK = 8
+};
+
+/* Why a call is refused: the numbers of docs/REFUSALS.md, which says what to do; and 0, where memory lent for a result has the wrong length. */
+enum vesztamor_refusal {
+    VESZTAMOR_WRONG_LENGTH = 0,
+    VESZTAMOR_UNSOUND = 1,
+    VESZTAMOR_NO_SUCH_TASK = 2,
+    VESZTAMOR_NO_SUCH_RESOURCE = 3,
+    VESZTAMOR_UNDECLARED = 4,
+    VESZTAMOR_NOT_SUSPENDED = 5,
+    VESZTAMOR_NOT_EXECUTING = 6,
+    VESZTAMOR_NOT_ACTIVE = 7,
+    VESZTAMOR_NO_PROCESSOR = 8,
+    VESZTAMOR_NOT_RUNNING = 9,
+    VESZTAMOR_TICKS_OUT_OF_RANGE = 10,
+    VESZTAMOR_CLOCK_LIMIT = 11,
+    VESZTAMOR_PAST_BUDGET = 12,
+    VESZTAMOR_NOT_RECHARGING = 13,
+    VESZTAMOR_BEFORE_DEADLINE = 14,
+    VESZTAMOR_ALREADY_HELD = 15,
+    VESZTAMOR_WOULD_DEADLOCK = 16,
+    VESZTAMOR_NOT_OWNED = 17,
+    VESZTAMOR_NOT_TOP = 18,
+    VESZTAMOR_BAD_COUNTS = 19,
+    VESZTAMOR_BAD_RESERVATION = 20,
+    VESZTAMOR_BAD_DECLARATION = 21,
+    VESZTAMOR_FEW_ROWS = 22,
+    VESZTAMOR_CUT_SHORT = 30,
+    VESZTAMOR_BAD_RECORD = 31,
+    VESZTAMOR_OUT_OF_ORDER = 32,
+    VESZTAMOR_TOO_LONG = 33,
+    VESZTAMOR_BAD_SECTION_COUNTS = 40,
+    VESZTAMOR_BAD_SECTION = 41,
+    VESZTAMOR_RESOURCE_ORDER = 42,
+    VESZTAMOR_CHILDREN_TOO_LONG = 43,
+    VESZTAMOR_NO_SUCH_BOUND_TASK = 44,
+    VESZTAMOR_BAD_ALLOWANCE = 45,
+    VESZTAMOR_ALLOWANCE_SPENT = 46
+};
+
+static inline uint32_t vesztamor_word_of(uint64_t answer) { return (uint32_t)(answer >> 32); }
+static inline uint32_t vesztamor_number_of(uint64_t answer) { return (uint32_t)answer; }
+
+/* The fresh state of a table: ok 0. Refused 0: state has not VESZTAMOR_STATE_BYTES bytes; 19: counts, or the table's length; 20, 21. */
+uint64_t vesztamor_fresh(const uint8_t *table, size_t table_length, uint8_t *state, size_t state_length);
+
+/* Whether the bytes hold a sound state: ok 0, or refused 1. */
+uint64_t vesztamor_is_sound(const uint8_t *state, size_t state_length);
+
+/* One event. number is the task's or the server's, resource a lock's or an unlock's, ticks an elapse's; an event looks at its own operands alone.
+ * Refused 1: no state, or none that is sound; 31: no such kind (told before soundness); else as docs/REFUSALS.md has it. */
+uint64_t vesztamor_step(uint8_t *state, size_t state_length, uint16_t kind, uint16_t number, uint16_t resource, uint32_t ticks);
+
+/* What a server is doing: executes or spins, and the task; ok 0 where it is not Running or there is no such server. Refused 1: no state. */
+uint64_t vesztamor_executing(const uint8_t *state, size_t state_length, uint16_t server);
+
+/* The interference bound of a task: ok 12, with the bound (8 bytes) and the weighings (4 bytes) in out. Refused 0: out has not
+ * VESZTAMOR_BOUND_BYTES bytes; 40: counts, or the table's length; 41 to 46. */
+uint64_t vesztamor_bound(const uint8_t *sections, size_t sections_length, uint16_t task, uint32_t allowance, uint8_t *out, size_t out_length);
+
+/* The listing of a trace: ok and the length of its text, which is in out from its first byte on. Refused 0: out is shorter than
+ * VESZTAMOR_TEXT_BYTES(trace_length). */
+uint64_t vesztamor_replay(const uint8_t *trace, size_t trace_length, uint8_t *out, size_t out_length);
+
+#ifdef __cplusplus
+}
+#endif
+
+#endif

@@ -1,0 +1,113 @@
+-- What each exported function answers, and what it leaves of the bytes lent to it. A refusal leaves them as they were. Assumes nothing.
+use mathlib.Core.Bool.{Bool, true, false}
+use mathlib.Core.List.{List, _++_}
+use mathlib.Core.Option.{Option, none, some}
+use Prim.Native.Nat.{ℕ, _/_, _%_, _^_}
+use lib.Dec.{eqb}
+use lib.ListN.{length}
+use Rattle.laws.specs.Tests.{if_then_else_}
+use Rattle.bytes.specs.Numbers.{four}
+use Rattle.model.specs.declared.Answer.{Answer}
+use Rattle.model.specs.declared.Answer.the-variants.{Ok, Executes, Spins, Granted, Waits, Passed, Freed, Refused}
+use Rattle.model.specs.declared.FreshAnswer.{FreshAnswer}
+use Rattle.model.specs.declared.FreshAnswer.the-variants as fresh
+use Rattle.model.specs.declared.Outcome.{Outcome}
+use Rattle.model.specs.declared.State.{State}
+use Rattle.model.specs.Sound.{sound}
+use Rattle.model.specs.Step.{stepped}
+use Rattle.model.specs.Fresh.{freshOf}
+use Rattle.model.specs.Said.{Word, ok, refused, said}
+use Rattle.settle.specs.Doing.{doing, saidDoing}
+use Rattle.bound.specs.declared.Bounded.{Bounded}
+use Rattle.bound.specs.declared.Bounded.the-variants as bounded
+use Rattle.bound.specs.Answer.{answer}
+use Rattle.listing.specs.Replay.{replayed, bufferAfter, saidReplayed}
+use Rattle.image.specs.Layout.{imageSize}
+use Rattle.trace.specs.Reading.{isEvent, eventOf}
+use Rattle.image.specs.Encoded.{encoded}
+use Rattle.image.specs.Decoded.{decoded}
+use Rattle.vesztamor.specs.Tables.{isTable, tableIn, isSections, sectionsIn}
+
+pub record Exported : Type 0 where
+  pub answer : Word × ℕ
+  pub bytes : List ℕ
+
+abbrev pub refusal : ℕ → List ℕ → Exported
+refusal n bytes = record { answer = (refused, n); bytes = bytes }
+
+-- a fresh state in place of the bytes: `ok` and 0. Memory that has not the length of a state is `refused` and 0, for which document 01 has no number;
+-- bytes that are no table have wrong counts, 19.
+abbrev pub freshLeft : FreshAnswer → State → List ℕ → Exported
+freshLeft fresh.Made st bytes = record { answer = (ok, 0); bytes = encoded st }
+freshLeft (fresh.Refused n) st bytes = refusal n bytes
+
+unfoldable pub freshExport : List ℕ → List ℕ → Exported
+freshExport table bytes =
+    if eqb (length bytes) imageSize
+    then (if isTable table then freshLeft (freshOf (tableIn table) .answer) (freshOf (tableIn table) .state) bytes else refusal 19 bytes)
+    else refusal 0 bytes
+
+-- "1 state not sound", which bytes that are no state's are too
+abbrev pub soundSaid : Option State → Word × ℕ
+soundSaid none = (refused, 1)
+soundSaid (some st) = if sound st then (ok, 0) else (refused, 1)
+
+unfoldable pub soundExport : List ℕ → Word × ℕ
+soundExport bytes = soundSaid (decoded bytes)
+
+-- the task that a server executes or spins for; document 01 has no word for a server that is not Running, which is told as `ok` and 0
+abbrev pub doingTold : Option (Word × ℕ) → Word × ℕ
+doingTold none = (ok, 0)
+doingTold (some said) = said
+
+abbrev pub executingSaid : Option State → ℕ → Word × ℕ
+executingSaid none s = (refused, 1)
+executingSaid (some st) s = doingTold (saidDoing (doing st s))
+
+unfoldable pub executingExport : List ℕ → ℕ → Word × ℕ
+executingExport bytes s = executingSaid (decoded bytes) s
+
+abbrev pub isRefused : Answer → Bool
+isRefused (Ok n) = false
+isRefused (Executes t) = false
+isRefused (Spins t) = false
+isRefused (Granted r) = false
+isRefused (Waits t) = false
+isRefused (Passed t) = false
+isRefused (Freed r) = false
+isRefused (Refused n) = true
+
+abbrev pub stepLeft : Outcome → List ℕ → Exported
+stepLeft o bytes = record { answer = said (o .answer); bytes = if isRefused (o .answer) then bytes else encoded (o .state) }
+
+-- an event by the kind's number of a trace: 1 for bytes that are no state's, then 31 for a kind that is no event's, then what the step says
+abbrev pub stepBy : Option State → ℕ → ℕ → ℕ → ℕ → List ℕ → Exported
+stepBy none kind number resource ticks bytes = refusal 1 bytes
+stepBy (some st) kind number resource ticks bytes =
+    if isEvent kind then stepLeft (stepped st (eventOf kind number resource ticks)) bytes else refusal 31 bytes
+
+unfoldable pub stepExport : List ℕ → ℕ → ℕ → ℕ → ℕ → Exported
+stepExport bytes kind number resource ticks = stepBy (decoded bytes) kind number resource ticks bytes
+
+-- the bound in eight bytes and the weighings in four, in place of the bytes lent for them: `ok` and 12. Memory of another length is `refused` and 0;
+-- bytes that are no table of sections have wrong counts, 40.
+abbrev pub boundSize : ℕ
+boundSize = 12
+
+unfoldable pub boundBytes : ℕ → ℕ → List ℕ
+boundBytes value weighings = four (value % 2 ^ 32) ++ four (value / 2 ^ 32) ++ four weighings
+
+abbrev pub boundLeft : Bounded → List ℕ → Exported
+boundLeft (bounded.Bound value weighings) bytes = record { answer = (ok, boundSize); bytes = boundBytes value weighings }
+boundLeft (bounded.Refused n) bytes = refusal n bytes
+
+unfoldable pub boundExport : List ℕ → ℕ → ℕ → List ℕ → Exported
+boundExport sections task allowance bytes =
+    if eqb (length bytes) boundSize
+    then (if isSections sections then boundLeft (answer (sectionsIn sections) task allowance) bytes else refusal 40 bytes)
+    else refusal 0 bytes
+
+-- the text of a replay at the start of the bytes lent for it: `ok` and how long the text is. Memory too short for a trace of that length is `refused`
+-- and 0.
+unfoldable pub replayExport : List ℕ → List ℕ → Exported
+replayExport trace bytes = record { answer = saidReplayed (replayed trace (length bytes)); bytes = bufferAfter trace bytes }
