@@ -1,7 +1,7 @@
 -- What the walk over lent rows decides and stores is document 01's metering: the answer, the rows that are written, and that a refusal writes none.
 -- In a sound state the numbers in use are those below the tasks, so that the first rows, as many as tasks, are the rows of the numbers in use.
 -- Assumes nothing.
-use mathlib.Core.Path.{_≡_, refl, sym, ap, _∙_}
+use mathlib.Core.Path.{_≡_, refl, sym, _∙_}
 use mathlib.Core.Bool.{true, false, not}
 use mathlib.Core.List.{List}
 use mathlib.Core.Option.{Option, none, some}
@@ -18,7 +18,6 @@ use Rattle.laws.proofs.Count.{count-ext}
 use Rattle.laws.proofs.Set.{length-setTo, set-cases}
 use Rattle.model.specs.declared.State.{State}
 use Rattle.model.specs.declared.Row.{Row}
-use Rattle.model.specs.declared.Answer.the-variants.{Ok}
 use Rattle.model.specs.State.{places, here}
 use Rattle.model.specs.Sound.{sound}
 use Rattle.model.specs.Said.{said}
@@ -62,6 +61,13 @@ module _ (st : State) (fit : st .tasks ≤ places) where
       let m : i < length rows = omega (arith, length-setTo (st .tasks) (rowOf st) rows) in
       set-cases _ i _ rows noRow m ∙ row-chosen rows i ∙ sym (set-cases _ i _ rows noRow m))
 
+sound-fit : (st : State) → sound st ≡ true → st .tasks ≤ places
+sound-fit st e = sound-facts st .holds e .is-loose .tasks-most
+
+-- in a sound state as many rows are written as there are tasks
+pub sound-counted : (st : State) → sound st ≡ true → countTo places (here st) ≡ st .tasks
+sound-counted st e = tasks-counted st (sound-fit st e)
+
 module _ (st : State) (lent : ℕ) where
   -- the three ways that metering goes
   pub refused-unsound : sound st ≡ false → meterRefusal st lent ≡ some 1
@@ -78,30 +84,30 @@ module _ (st : State) (lent : ℕ) where
 
   accepted-fit : meterRefusal st lent ≡ none → st .tasks ≤ places
   unfolding meterRefusal
-  accepted-fit e = sound-facts st .holds (not-false _ (none-fails 1 (not (sound st)) _ e)) .is-loose .tasks-most
+  accepted-fit e = sound-fit st (not-false _ (none-fails 1 (not (sound st)) _ e))
 
   pub accepted-enough : meterRefusal st lent ≡ none → st .tasks ≤ lent
   unfolding meterRefusal
   accepted-enough e = ltb-false lent (st .tasks) (none-fails 22 (ltb lent (st .tasks)) _ (none-later 1 (not (sound st)) _ e))
 
 module _ (st : State) (rows : List Row) where
-  answer-by : (r : Option ℕ) → (r ≡ none → st .tasks ≤ places) → decidedBy r (st .tasks) ≡ meterBy r st rows .0
-  answer-by none fit = ap Ok (sym (tasks-counted st (fit refl)))
-  answer-by (some n) fit = refl
+  answer-by : (r : Option ℕ) → decidedBy r st ≡ meterBy r st rows .0
+  answer-by none = refl
+  answer-by (some n) = refl
 
-  rows-by : (r : Option ℕ) → (r ≡ none → st .tasks ≤ places) → setTo (written (decidedBy r (st .tasks))) (rowOf st) rows ≡ meterBy r st rows .1
+  rows-by : (r : Option ℕ) → (r ≡ none → st .tasks ≤ places) → setTo (written (decidedBy r st)) (rowOf st) rows ≡ meterBy r st rows .1
   unfolding setTo
-  rows-by none fit = rows-chosen st (fit refl) rows
+  rows-by none fit = rw (tasks-counted st (fit refl)) (rows-chosen st (fit refl) rows)
   rows-by (some n) fit = refl
 
-  written-by : (r : Option ℕ) → (r ≡ none → st .tasks ≤ length rows) → written (decidedBy r (st .tasks)) ≤ length rows
-  written-by none enough = enough refl
-  written-by (some n) enough = omega arith
+  written-by : (r : Option ℕ) → (r ≡ none → st .tasks ≤ places) → (r ≡ none → st .tasks ≤ length rows) → written (decidedBy r st) ≤ length rows
+  written-by none fit enough = rw (tasks-counted st (fit refl)) (enough refl)
+  written-by (some n) fit enough = omega arith
 
   -- what is decided is what metering answers, says and writes
   pub answer-is : decidedOn st (length rows) ≡ metered st rows .0
   unfolding decidedOn metered
-  answer-is = answer-by (meterRefusal st (length rows)) (accepted-fit st (length rows))
+  answer-is = answer-by (meterRefusal st (length rows))
 
   pub rows-are : setTo (written (decidedOn st (length rows))) (rowOf st) rows ≡ metered st rows .1
   unfolding decidedOn metered
@@ -109,7 +115,7 @@ module _ (st : State) (rows : List Row) where
 
   pub written-fits : written (decidedOn st (length rows)) ≤ length rows
   unfolding decidedOn
-  written-fits = written-by (meterRefusal st (length rows)) (accepted-enough st (length rows))
+  written-fits = written-by (meterRefusal st (length rows)) (accepted-fit st (length rows)) (accepted-enough st (length rows))
 
 pub said-is : (st : State) (lent : ℕ) → said (decidedOn st lent) ≡ meterSaid st lent
 unfolding decidedOn meterSaid
@@ -120,5 +126,5 @@ said-is st lent =
     split
     (ltb lent (st .tasks))
     (λ f. rw (refused-few st lent y (ltb-true _ _ f), y, f))
-    (λ n. rw (refused-none st lent y (ltb-false _ _ n), y, n)))
+    (λ n. rw (refused-none st lent y (ltb-false _ _ n), y, n, sound-counted st y)))
     (λ u. rw (refused-unsound st lent u, u))

@@ -4,19 +4,21 @@ use mathlib.Core.Option.{Option, none, some}
 use Prim.Native.Nat.{ℕ}
 use lib.Dec.{ltb}
 use Rattle.laws.specs.Tests.{if_then_else_}
+use Rattle.laws.specs.Loops.{countTo}
 use Rattle.model.specs.declared.State.{State}
 use Rattle.model.specs.declared.Answer.{Answer}
 use Rattle.model.specs.declared.Answer.the-variants.{Ok, Executes, Spins, Granted, Waits, Passed, Freed, Refused}
+use Rattle.model.specs.State.{places, here}
 use Rattle.model.specs.Sound.{sound}
 use Rattle.model.specs.Said.{Word, ok, refused}
 use Rattle.model.specs.Meter.{meterRefusal}
 
-abbrev pub decidedBy : Option ℕ → ℕ → Answer
-decidedBy none tasks = Ok tasks
-decidedBy (some n) tasks = Refused n
+abbrev pub decidedBy : Option ℕ → State → Answer
+decidedBy none st = Ok (countTo places (here st))
+decidedBy (some n) st = Refused n
 
 unfoldable pub decidedOn : State → ℕ → Answer
-decidedOn st lent = decidedBy (meterRefusal st lent) (st .tasks)
+decidedOn st lent = decidedBy (meterRefusal st lent) st
 
 abbrev pub written : Answer → ℕ
 written (Ok n) = n
@@ -28,6 +30,6 @@ written (Passed t) = 0
 written (Freed r) = 0
 written (Refused n) = 0
 
--- "`ok` and how many rows; refusals 1, 22"
+-- in document 01's word and number, "`ok` and how many rows; refusals 1, 22": in a sound state the rows are as many as tasks
 unfoldable pub meterSaid : State → ℕ → Word × ℕ
 meterSaid st lent = if sound st then (if ltb lent (st .tasks) then (refused, 22) else (ok, st .tasks)) else (refused, 1)

@@ -3,7 +3,7 @@ use mathlib.Core.Path.{sym, _∙_}
 use borrow.Author.Needs.{needs}
 use borrow.Author.Tests.{not-true, not-false}
 use Rattle.meter.specs.Decided.{decidedOn}
-use Rattle.meter.proofs.Decided.{refused-unsound, refused-few, refused-none}
+use Rattle.meter.proofs.Decided.{refused-unsound, refused-few, refused-none, sound-counted}
 use Rattle.meter.proofs.answer.decided.Statement.{statement}
 use Rattle.meter.proofs.answer.decided.Tie as tie
 
@@ -17,7 +17,9 @@ returns-2 c = rw (refused-few _ _ (sym (c .before .before .before .is-sound .ens
 
 returns-3 : tie.Need-returns-3
 unfolding decidedOn
-returns-3 c = rw (refused-none _ _ (sym (c .before .before .before .is-sound .ensures) ∙ not-false _ (c .before .before .if1 .left)) (c .if2 .left))
+returns-3 c =
+    let is-sound = sym (c .before .before .before .is-sound .ensures) ∙ not-false _ (c .before .before .if1 .left) in
+    rw (refused-none _ _ is-sound (c .if2 .left), sound-counted _ is-sound)
 
 pub decided-spec : {M : Type 1} → statement M
 decided-spec = tie.close (tie.spec (λ c κs. search needs) returns (λ c. search needs) returns-2 returns-3)

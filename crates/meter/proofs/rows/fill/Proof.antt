@@ -209,6 +209,7 @@ module _
             (‵ (fat fullShare (tyInt w16) l₅ 0 (vint w16 i)) ∷ ‵ (fdies (tyInt w16) l₅) ∷ ‵ (fat fullShare (tyInt w16) l₄ 0 (vint w16 n))
             ∷ ‵ (fdies (tyInt w16) l₄) ∷ ‵ (fat fullShare (spelled AnswerT) l₃ 0 v) ∷ ‵ (fdies (spelled AnswerT) l₃) ∷ Passed)
 
+        -- with t turns left; with fewer than t; and what is to hold where the loop is left
         abbrev Inv : ℕ → SProp 𝓤
         Inv t = ex 𝓤 (λ (i : ℕ). guard 𝓤 (i + t ≡ n) (⋆ 𝓤 H A (At i)))
 
