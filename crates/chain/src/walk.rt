@@ -33,12 +33,17 @@ pub fn ends(links: &[usize; 16]) -> [usize; 16]
     xs
 }
 
-// The end of each chain of a state.
-pub fn chain_ends(st: State) -> [usize; 16]
+// The end of each chain of a state. The end of a number that is not in use is that number.
+pub fn chain_ends(st: State) -> [TaskNo; 16]
     ensures { λ r. ⌜ r ≡ endsOf st ⌝ }
 {
     let links = crate::links::nexts(st);
-    ends(&links)
+    let mut xs = [TaskNo(16); 16];
+    for t in 0..16usize {
+        let end = end_of(&links, t, 16);
+        xs[t] = TaskNo(end as u16);
+    }
+    xs
 }
 
 // The chain end of one task. A number that is not in use is its own end; in a closed chain it is where sixteen links lead.

@@ -8,6 +8,7 @@ use crate::Mode;
 use crate::Owner;
 use crate::Phase;
 use crate::Runs;
+use crate::ServerNo;
 
 // Whether i has a place and is below the count.
 pub fn in_use(count: u16, i: usize) -> bool
@@ -145,6 +146,16 @@ pub fn is_placed(x: Runs) -> bool
     match x {
         Runs::Nowhere => false,
         Runs::In(_) => true,
+    }
+}
+
+// The server in which the task executes, or 16.
+pub fn executor_in(x: Runs) -> ServerNo
+    ensures { λ r. ⌜ r ≡ record { 0 = placeNo x } ⌝ }
+{
+    match x {
+        Runs::Nowhere => ServerNo(16),
+        Runs::In(s) => s,
     }
 }
 

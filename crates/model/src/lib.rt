@@ -134,4 +134,5 @@ pub struct Row {
 }
 
 pub mod blank;
+pub mod builders;
 pub mod entries;

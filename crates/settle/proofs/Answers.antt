@@ -1,11 +1,12 @@
 -- What a server is doing, case by case, as the query's code finds it. Assumes nothing.
-use mathlib.Core.Path.{_≡_, ap}
+use mathlib.Core.Path.{_≡_, sym, ap, _∙_}
 use mathlib.Core.Bool.{true, false}
 use Prim.Native.Nat.{ℕ, _<_}
 use lib.Dec.{ltb}
 use borrow.Author.Tests.{eq-eqb, ne-eqb, ltb-true}
 use Rattle.laws.proofs.Cases.{split, and-left}
 use Rattle.model.specs.declared.TaskNo.{TaskNo}
+use Rattle.model.specs.declared.ServerNo.{ServerNo}
 use Rattle.model.specs.declared.State.{State}
 use Rattle.model.specs.State.{places, serverAt, taskAt, inUse, here, running, placeNo, executorOf, served, runningAt, executes}
 use Rattle.model.proofs.Chain.{served-below}
@@ -38,10 +39,16 @@ module _ (st : State) (s : ℕ) where
       unfolding runningAt here
       is-running = rw (used, runs)
 
-      pub doing-executes : (end : TaskNo) → end ≡ record { 0 = served st s } → placeNo (taskAt st (end .0) .runs) ≡ s → Executes end ≡ doing st s
-      unfolding doing executes executorOf
-      doing-executes end e h = rw (is-running, eq-eqb _ s (rw e at h)) (ap Executes e)
+      -- `executor` is where the task that it serves executes
+      module _ (end : TaskNo) (executor : ServerNo) (e : end ≡ record { 0 = served st s }) (at : executor ≡ record { 0 = placeNo (taskAt st (end .0) .runs) }) where
+        place : executor .0 ≡ executorOf st (served st s)
+        unfolding executorOf
+        place = ap (λ x. x .0) at ∙ ap (λ (t : TaskNo). placeNo (taskAt st (t .0) .runs)) e
 
-      pub doing-spins : (end : TaskNo) → end ≡ record { 0 = served st s } → (placeNo (taskAt st (end .0) .runs) ≡ s → ⊥) → Spins end ≡ doing st s
-      unfolding doing executes executorOf
-      doing-spins end e h = rw (is-running, ne-eqb _ s (rw e at h)) (ap Spins e)
+        pub doing-executes : executor .0 ≡ s → Executes end ≡ doing st s
+        unfolding doing executes
+        doing-executes h = rw (is-running, eq-eqb _ s (sym place ∙ h)) (ap Executes e)
+
+        pub doing-spins : (executor .0 ≡ s → ⊥) → Spins end ≡ doing st s
+        unfolding doing executes
+        doing-spins h = rw (is-running, ne-eqb _ s (λ q. h (place ∙ q))) (ap Spins e)

@@ -1,2 +1,2 @@
-pub mod Arrays
+pub mod Settled
 pub mod Answers

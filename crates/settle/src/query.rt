@@ -24,7 +24,8 @@ pub fn executing(st: State, s: ServerNo) -> Doing
     let t = end.0 as usize;
     let entry = st.task[t];
     let runs = entry.runs;
-    if model::entries::place_no(runs) == i {
+    let executor = model::entries::executor_in(runs);
+    if executor.0 == s.0 {
         Doing::Executes(end)
     } else {
         Doing::Spins(end)

@@ -17,8 +17,8 @@ use Rattle.model.specs.declared.State.{State}
 use Rattle.model.specs.State.{places, nobody, inSet, taskAt, resourceAt, serverAt, awaited, running, here, ownerOf, next, served, runningAt}
 use Rattle.model.specs.Sound.{each, ifHere}
 use Rattle.model.proofs.Chain.{served-below, owner-past, present-past}
-use Rattle.chain.specs.Arrays.{arrayOf, ownersOf, nextsOf, endsOf, endsBy, atOrNobody}
-use Rattle.chain.proofs.Arrays.{array-at, array-same, owner-is, ends-at, ends-are}
+use Rattle.chain.specs.Arrays.{arrayOf, ownersOf, nextsOf, endNumbers, endsBy, atOrNobody}
+use Rattle.chain.proofs.Arrays.{array-at, array-same, owner-is, end-numbers-at, ends-are}
 use Rattle.soundness.specs.Members.{otherAt, memberAt, membersFit, usedIn}
 use Rattle.soundness.specs.Groups.{wanted, wantedOf, linkAt, linksBy, runsFor, taskPasses, taskPassesAt, resourcePasses, resourcePassesAt, serverPasses, serverPassesAt, executesPasses, runsForOf, serversPass}
 use Rattle.soundness.proofs.Passed.{depth, waiters, task-facts, resource-facts}
@@ -102,12 +102,12 @@ pub runs-for-read
     : (st : State) (ends : List ℕ) (s end : ℕ) (runs : Bool)
     → s < places
     → here st s ≡ true
-    → ends ≡ endsOf st
+    → ends ≡ endNumbers st
     → runs ≡ running (serverAt st s .phase)
     → end ≡ (if runs then getD ends s 0 else nobody)
     → end ≡ runsFor st s
 unfolding runsFor runningAt
-runs-for-read st ends s end runs l h e r v = v ∙ rw (r, h, ap (λ xs. getD xs s 0) e ∙ ends-at st s l)
+runs-for-read st ends s end runs l h e r v = v ∙ rw (r, h, ap (λ xs. getD xs s 0) e ∙ end-numbers-at st s l)
 
 pub runs-for-none : (st : State) (s : ℕ) → here st s ≡ false → runsFor st s ≡ nobody
 unfolding runsFor runningAt
@@ -207,13 +207,13 @@ module _ (st : State) (p : ℕ → Bool) (i : ℕ) where
   each-done = all-done (ifHere st p) i places
 
 -- what the code reads of a server, the end of its chain and whom the servers run for
-end-read : (st : State) (ends : List ℕ) (i : ℕ) → i < places → ends ≡ endsOf st → getD ends i 0 ≡ served st i
-end-read st ends i l e = ap (λ xs. getD xs i 0) e ∙ ends-at st i l
+end-read : (st : State) (ends : List ℕ) (i : ℕ) → i < places → ends ≡ endNumbers st → getD ends i 0 ≡ served st i
+end-read st ends i l e = ap (λ xs. getD xs i 0) e ∙ end-numbers-at st i l
 
-pub end-below : (st : State) (ends : List ℕ) (i : ℕ) → i < places → ends ≡ endsOf st → getD ends i 0 < places
+pub end-below : (st : State) (ends : List ℕ) (i : ℕ) → i < places → ends ≡ endNumbers st → getD ends i 0 < places
 end-below st ends i l e = rw (end-read st ends i l e) (served-below st i l)
 
-module _ (st : State) (links ends : List ℕ) (i : ℕ) (l : i < places) (le : links ≡ nextsOf st) (ee : ends ≡ endsOf st) where
+module _ (st : State) (links ends : List ℕ) (i : ℕ) (l : i < places) (le : links ≡ nextsOf st) (ee : ends ≡ endNumbers st) where
   link-read : getD links (getD ends i 0) 0 ≡ next st (served st i)
   unfolding nextsOf
   link-read =
@@ -245,7 +245,7 @@ module _ (st : State) (links ends : List ℕ) (i : ℕ) (l : i < places) (le : l
 pub links-read : (st : State) (owners wants links : List ℕ) → owners ≡ ownersOf st → wants ≡ wantedOf st → links ≡ linksBy owners wants → links ≡ nextsOf st
 links-read st owners wants links o w e = e ∙ ap₂ linksBy o w ∙ links-are st
 
-pub ends-read : (st : State) (links ends : List ℕ) → links ≡ nextsOf st → ends ≡ endsBy links → ends ≡ endsOf st
+pub ends-read : (st : State) (links ends : List ℕ) → links ≡ nextsOf st → ends ≡ endsBy links → ends ≡ endNumbers st
 ends-read st links ends l e = e ∙ ap endsBy l ∙ ends-are st
 
 module _ (st : State) (runsBy : List ℕ) (n : ℕ) (re : runsBy ≡ runsForOf st) (ne : n ≡ usedIn runsBy) where

@@ -2,7 +2,7 @@
 // server serves. Assumes nothing.
 ghost use mathlib.Core.Path.{_≡_};
 ghost use Rattle.laws.specs.Tests.{if_then_else_};
-ghost use Rattle.chain.specs.Arrays.{endsOf};
+ghost use Rattle.chain.specs.Arrays.{endNumbers};
 ghost use Rattle.soundness.specs.Groups.{wantedOf, linksBy, runsForOf};
 use model::State;
 
@@ -36,7 +36,7 @@ pub fn links<'a>(owners: &'a [usize; 16], wants: &'a [usize; 16]) -> [usize; 16]
 
 // Whom each Running server serves, or 16.
 pub fn runs_for(st: State, ends: &[usize; 16]) -> [usize; 16]
-    requires { ⌜ now ends ≡ endsOf st ⌝ }
+    requires { ⌜ now ends ≡ endNumbers st ⌝ }
     ensures { λ r. ⌜ r ≡ runsForOf st ⌝ }
 {
     let servers = st.server;

@@ -5,7 +5,7 @@ ghost use Prim.Native.Nat.{_≤_};
 ghost use mathlib.Core.Bool.{_&&_};
 ghost use lib.Dec.{leb};
 ghost use Rattle.model.specs.Sound.{countsFit, clockLimit, each, sound};
-ghost use Rattle.chain.specs.Arrays.{ownersOf, nextsOf, endsOf};
+ghost use Rattle.chain.specs.Arrays.{ownersOf, nextsOf, endNumbers};
 ghost use Rattle.soundness.specs.Groups.{wantedOf, runsForOf, tasksPass, resourcesPass, serverPassesAt, serversPass};
 use model::State;
 
@@ -65,7 +65,7 @@ fn servers_pass<'a>(
     ends: &'a [usize; 16],
     runs_by: &'a [usize; 16],
 ) -> bool
-    requires { ⌜ (now links ≡ nextsOf st) × (now ends ≡ endsOf st) × (now «runs_by» ≡ runsForOf st) ⌝ }
+    requires { ⌜ (now links ≡ nextsOf st) × (now ends ≡ endNumbers st) × (now «runs_by» ≡ runsForOf st) ⌝ }
     ensures { λ r. ⌜ r ≡ each st (serverPassesAt st) ⌝ }
 {
     let servers = st.server;

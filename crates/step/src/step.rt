@@ -1,10 +1,30 @@
-// `step`: an unsound state is refused 1; on a sound one each event goes to the function that knows it. Assumes nothing.
+// `step`: soundness, refusal, the event's own change, rule H, answer; every event goes this one way. Assumes nothing.
 ghost use mathlib.Core.Path.{_≡_};
-ghost use Rattle.model.specs.Step.{stepped};
+ghost use mathlib.Core.Option.{none};
+ghost use Rattle.model.specs.Step.{outcome, stepped};
 ghost use Rattle.model.specs.Said.{said};
+ghost use Rattle.events.specs.Verdicts.{Clear};
+use events::Verdict;
 use model::Event;
 use model::Outcome;
 use model::State;
+
+// An event that no test refuses, on a sound state.
+fn taken(st: State, e: Event) -> Outcome
+    requires { ⌜ Clear st e ⌝ }
+    ensures { λ r. ⌜ r ≡ outcome none st e ⌝ }
+{
+    let before = chain::servers::executors(st);
+    let change = events::event::changed(st, e);
+    let changed = change.state;
+    let ends = change.ends;
+    let acting = crate::acting::acting_server(before, e);
+    let after = settle::rule::settled(before, acting, ends, changed);
+    Outcome {
+        answer: crate::answer::answered(st, after, ends, change.count, e),
+        state: after,
+    }
+}
 
 // The answer to an event, and the next state. A refusal hands the given state back as it came.
 pub fn step(st: State, e: Event) -> Outcome
@@ -12,16 +32,11 @@ pub fn step(st: State, e: Event) -> Outcome
     ensures says { λ r. ⌜ said (r .answer) ≡ said (stepped st e .answer) ⌝ }
 {
     if !soundness::sound::is_sound(st) {
-        return servers::entries::refused(st, 1);
+        return model::builders::refused(st, 1);
     }
-    match e {
-        Event::Wake(t) => servers::wake::wake(st, t),
-        Event::Suspend(t) => servers::suspend::suspend(st, t),
-        Event::Dispatch(s) => servers::dispatch::dispatch(st, s),
-        Event::Preempt(s) => servers::preempt::preempt(st, s),
-        Event::Elapse(n) => servers::elapse::elapse(st, n),
-        Event::Recharge(s) => servers::recharge::recharge(st, s),
-        Event::Lock(t, r) => locks::lock::lock(st, t, r),
-        Event::Unlock(t, r) => locks::unlock::unlock(st, t, r),
+    let verdict = events::event::refusal(st, e);
+    match verdict {
+        Verdict::Refused(n) => model::builders::refused(st, n),
+        Verdict::Accepted => taken(st, e),
     }
 }

@@ -25,18 +25,24 @@ executing-spec =
     end-below _ _ (sym (used .before .in-use .ensures) ∙ not-false _ (used .if1 .left)) _ (c .before .chain-end .ensures))
     (λ c κs. search needs)
     (λ c.
-    let runs = c .before .before .before .before .before in
+    let place = c .before .before .before in
+    let ended = place .before .before .before in
+    let runs = ended .before in
     let used = runs .before .before .before in
     and-said _ _
     (doing-executes _ _ (sym (used .before .in-use .ensures) ∙ not-false _ (used .if1 .left))
-    (sym (runs .before .is-running .ensures) ∙ not-false _ (runs .if2 .left)) _
-    (c .before .before .before .before .chain-end .ensures)
-    (sym (c .before .place-no .ensures) ∙ c .if3 .taken)))
+    (sym (runs .before .is-running .ensures) ∙ not-false _ (runs .if2 .left)) _ _
+    (ended .chain-end .ensures)
+    (place .executor-in .ensures)
+    (c .if3 .taken)))
     (λ c.
-    let runs = c .before .before .before .before .before in
+    let place = c .before .before .before in
+    let ended = place .before .before .before in
+    let runs = ended .before in
     let used = runs .before .before .before in
     and-said _ _
     (doing-spins _ _ (sym (used .before .in-use .ensures) ∙ not-false _ (used .if1 .left))
-    (sym (runs .before .is-running .ensures) ∙ not-false _ (runs .if2 .left)) _
-    (c .before .before .before .before .chain-end .ensures)
-    (λ e. c .if3 .left (c .before .place-no .ensures ∙ e)))))
+    (sym (runs .before .is-running .ensures) ∙ not-false _ (runs .if2 .left)) _ _
+    (ended .chain-end .ensures)
+    (place .executor-in .ensures)
+    (c .if3 .left))))

@@ -1,7 +1,7 @@
 -- `settle::rule::better` meets its contract. Assumes nothing.
 use borrow.Author.Needs.{needs}
 use borrow.Author.Tests.{lt-ltb, le-ltb}
-use Rattle.settle.specs.Arrays.{betterBy}
+use Rattle.settle.specs.Computed.{betterBy}
 use Rattle.settle.proofs.rule.better.Statement.{statement}
 use Rattle.settle.proofs.rule.better.Tie as tie
 
@@ -10,10 +10,13 @@ unfolding betterBy
 better-spec =
     tie.close
     (tie.spec
-    (λ c. search (needs, le-ltb))
+    (λ c. search needs)
+    (λ c. search needs)
+    (λ c. rw (le-ltb _ 16 (c .if1 .taken)))
     (λ c. search needs)
     (λ c. search needs)
     (λ c. search needs)
     (λ c. search needs)
-    (λ c. search (needs, lt-ltb, le-ltb))
-    (λ c. search (needs, lt-ltb, le-ltb)))
+    (λ c. search needs)
+    (λ c. rw (lt-ltb _ 16 (c .before .if1 .left), lt-ltb _ _ (c .if2 .taken)))
+    (λ c. rw (lt-ltb _ 16 (c .before .if1 .left), le-ltb _ _ (c .if2 .left))))

@@ -1,0 +1,5 @@
+pub mod Turns
+pub mod Ticks
+pub mod Refusals
+pub mod Clear
+pub mod Changes

@@ -1,0 +1,5 @@
+pub mod Verdicts
+pub mod Changes
+pub mod Turning
+pub mod Spending
+pub mod Computed

@@ -1,5 +1,0 @@
-pub mod Refusals
-pub mod Changes
-pub mod Rests
-pub mod Grounds
-pub mod Outcomes

@@ -1,7 +1,0 @@
--- `locks::queue::enqueued` meets its contract. Assumes nothing.
-use borrow.Author.Needs.{needs}
-use Rattle.locks.proofs.queue.enqueued.Statement.{statement}
-use Rattle.locks.proofs.queue.enqueued.Tie as tie
-
-pub enqueued-spec : {M : Type 1} → statement M
-enqueued-spec = tie.close (tie.spec (λ c. search needs) (λ c. search needs) (λ c. search needs) (λ c. search needs) (λ c. search needs))

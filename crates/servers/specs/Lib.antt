@@ -1,2 +1,0 @@
-pub mod Serving
-pub mod Spending
