@@ -1,4 +1,4 @@
--- Laws of `joinTo`. A law named none, more or done is a loop's, the value first. Assumes nothing.
+-- Laws of `joinTo`. A law named none or more is a loop's, the value first. Assumes nothing.
 use mathlib.Core.Path.{_≡_, refl, ap, ap₂, _∙_}
 use mathlib.Core.List.{List, [], _++_}
 use Prim.Native.Nat.{ℕ, zero, suc, _+_, _<_, _≤_}
@@ -6,7 +6,6 @@ use native.Mathlib.Numerals.{add-one}
 use native.Mathlib.Omega.{arith}
 use lib.ListN.{length, length-append}
 use Rattle.laws.specs.Loops.{sumTo, joinTo}
-use Rattle.laws.proofs.Fold.{turns-done}
 
 module _ {ℓ} {A : Type ℓ} where
   pub join-none : (f : ℕ → List A) → [] ≡ joinTo 0 f
@@ -16,9 +15,6 @@ module _ {ℓ} {A : Type ℓ} where
   pub join-more : (f : ℕ → List A) (i : ℕ) (xs ys : List A) → ys ≡ f i → xs ≡ joinTo i f → xs ++ ys ≡ joinTo (i + 1) f
   unfolding joinTo
   join-more f i xs ys e h = rw add-one (ap₂ _++_ h e)
-
-  pub join-done : (f : ℕ → List A) (i n : ℕ) (xs : List A) → i ≤ n → n ≤ i → xs ≡ joinTo i f → xs ≡ joinTo n f
-  join-done f i n xs = turns-done (λ j. joinTo j f) i n xs
 
   -- parts equal one by one
   pub join-ext : (n : ℕ) (f g : ℕ → List A) → ((i : ℕ) → i < n → f i ≡ g i) → joinTo n f ≡ joinTo n g

@@ -24,7 +24,7 @@ use Rattle.theory.proofs.Soundness.{heir-room}
 use Rattle.theory.proofs.Steps.{Way, properly, executor-none, nobody-serves, after-server, after-resource, task-is, rest-by, same-for, executor-kept, executor-taken, executor-chosen, executor-same}
 use Rattle.theory.proofs.Readings.{for-served}
 use Rattle.theory.proofs.Lambda.{served-leads}
-use Rattle.theory.proofs.Through.{leads-last, through-end, apart-end}
+use Rattle.laws.proofs.Ends.{leads-last, through-end, apart-end}
 
 -- a task that awaits a resource waits for it
 awaits-is : (m : Mode) (r : ℕ) → r < places → awaited m ≡ r → m ≡ Waiting r

@@ -17,7 +17,8 @@ use Rattle.theory.proofs.Serving.{each-at}
 use Rattle.theory.proofs.StacksAndQueues.{touched-shows, touched-reads}
 use Rattle.theory.proofs.Locking.{owner-here, link-others, ends-after-wait, new-end}
 use Rattle.theory.proofs.Steps.{Way, properly, executor-none, nobody-serves, after-here, after-server, after-resource, after-running, task-is, rest-by, same-for, executor-kept, executor-taken, executor-lost, executor-same}
-use Rattle.theory.proofs.Readings.{recharging-is, resting, for-running, for-served, running-for, running-here, rests-at, spins-by}
+use Rattle.model.proofs.Variants.{recharging-is}
+use Rattle.theory.proofs.Readings.{resting, for-running, for-served, running-for, running-here, rests-at, spins-by}
 use Rattle.theory.proofs.Sleeping.{rested-set, rested-other, rested-still, rested-off}
 
 -- what does not see the servers does not see them rest

@@ -7,7 +7,8 @@ use Rattle.model.specs.Events.{refilled, rechargedPhase, recharged}
 use Rattle.model.specs.Step.{stateAfter, stepped}
 use Rattle.theory.specs.Rules.{Proper, ExecutorsStay, nothing, Recharged}
 use Rattle.theory.proofs.Steps.{Way, properly, ends-stay}
-use Rattle.theory.proofs.Readings.{recharging-is, for-running, rests-at}
+use Rattle.model.proofs.Variants.{recharging-is}
+use Rattle.theory.proofs.Readings.{for-running, rests-at}
 use Rattle.theory.proofs.Storing.{stored-server, stored-rest, stored-executor}
 
 module _ (st : State) (s : ℕ) (w : Way st (Recharge (record { 0 = s }))) where
