@@ -9,9 +9,8 @@ use Rattle.model.proofs.Chain.{served-here}
 use Rattle.theory.specs.Runs.{spins}
 use Rattle.theory.specs.Rules.{Proper, ExecutorsStay, only, Dispatched}
 use Rattle.model.proofs.Variants.{active-is}
-use Rattle.theory.proofs.Executing.{runs-for}
-use Rattle.theory.proofs.Soundness.{served-executes}
-use Rattle.theory.proofs.Steps.{Way, properly, after-here, ends-stay, executor-kept, executor-serves, executor-some}
+use Rattle.theory.proofs.Executing.{runs-for, Way, served-executes}
+use Rattle.theory.proofs.Steps.{properly, after-here, ends-stay, executor-kept, executor-serves, executor-some}
 use Rattle.theory.proofs.Readings.{for-running, for-served, for-here, running-for, runs-at, rests-at, spins-by, executes-by}
 use Rattle.theory.proofs.Storing.{stored-server, stored-rest, stored-for, stored-executor}
 

@@ -10,11 +10,10 @@ use Rattle.model.specs.Events.{ownTicks, lentTicks, spinTicks, runsOut, spentSe
 use Rattle.model.specs.Step.{stateAfter, stepped}
 use Rattle.model.proofs.Chain.{here-below}
 use Rattle.theory.specs.Rules.{Proper, ExecutorsStay, nothing, Rest, Elapsed}
-use Rattle.theory.proofs.Executing.{runs-for}
+use Rattle.theory.proofs.Executing.{runs-for, Way, served-executes}
 use Rattle.theory.proofs.Serving.{each-at}
-use Rattle.theory.proofs.Soundness.{served-executes}
 use Rattle.theory.proofs.Accounts.{elapsed-adds}
-use Rattle.theory.proofs.Steps.{Way, properly, nobody-serves, after-server, task-is, rest-by, ends-stay, same-for, executor-chosen, executor-stays}
+use Rattle.theory.proofs.Steps.{properly, nobody-serves, after-server, task-is, rest-by, ends-stay, same-for, executor-chosen, executor-stays}
 use Rattle.theory.proofs.Readings.{for-running, for-here, running-here, rests-at}
 
 module _ (st : State) (n : ℕ) (w : Way st (Elapse n)) where

@@ -6,8 +6,8 @@ use Rattle.model.specs.Events.{pushed, popped, withOwner, granted, locked, free
 use Rattle.model.specs.Step.{stateAfter, stepped}
 use Rattle.theory.specs.Rules.{Proper, Rest, ExecutorsStay, TaskIs, only, nothing, Granted, Freed}
 use Rattle.theory.proofs.StacksAndQueues.{touched, touched-shows, touched-reads}
-use Rattle.theory.proofs.Executing.{Quiet}
-use Rattle.theory.proofs.Steps.{Way, properly, after-server, after-resource, task-is, rest-by, ends-stay, executors-stay}
+use Rattle.theory.proofs.Steps.{Quiet, properly, after-server, after-resource, task-is, rest-by, ends-stay, executors-stay}
+use Rattle.theory.proofs.Executing.{Way}
 
 -- an event that stores task t and resource r, and after which nobody waits who did not
 module _ (st : State) (e : Event) (w : Way st e) (t r : ℕ) (k : Task) (x : Resource) (is : changed st e ≡ touched st t r k x) where

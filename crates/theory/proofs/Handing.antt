@@ -18,10 +18,10 @@ use Rattle.model.proofs.RuleH.{settled-next}
 use Rattle.model.proofs.Room.{stack-held, first-here, first-waits}
 use Rattle.theory.specs.Rules.{Proper, Through, ExecutorsStay, only, nothing, Passed, HandedOver}
 use Rattle.theory.proofs.Calm.{Calm, loose-calm}
-use Rattle.theory.proofs.Executing.{runs-ready, runs-ended}
+use Rattle.theory.proofs.Executing.{runs-ready, runs-ended, Way}
 use Rattle.theory.proofs.Passing as T
 use Rattle.theory.proofs.Soundness.{heir-room}
-use Rattle.theory.proofs.Steps.{Way, properly, executor-none, nobody-serves, after-server, after-resource, task-is, rest-by, same-for, executor-kept, executor-taken, executor-chosen, executor-same}
+use Rattle.theory.proofs.Steps.{properly, executor-none, nobody-serves, after-server, after-resource, task-is, rest-by, same-for, executor-kept, executor-taken, executor-chosen, executor-same}
 use Rattle.theory.proofs.Readings.{for-served}
 use Rattle.theory.proofs.Lambda.{served-leads}
 use Rattle.laws.proofs.Ends.{leads-last, through-end, apart-end}

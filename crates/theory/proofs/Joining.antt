@@ -1,9 +1,9 @@
 -- Lock of an owned resource: what ended at the locker ends where the owner's chain ends, and who executes there. Assumes nothing.
-use Rattle.theory.proofs.Kit.{_≡_, refl, sym, ap, _∙_, true, false, _||_, List, _⊎_, inl, inr, ⊎-elim, ℕ, _<_, _≤_, eqb, eqb-true, eqb-false, eq-eqb, ne-eqb}
+use Rattle.theory.proofs.Kit.{_≡_, refl, sym, ap, _∙_, true, false, List, _⊎_, inl, inr, ⊎-elim, ℕ, _<_, _≤_, eqb, eqb-true, eqb-false, eq-eqb, ne-eqb}
 use Rattle.laws.specs.Tests.{if_then_else_}
 use Rattle.laws.proofs.Cases.{split, holds-fails, unheld-fails}
-use Rattle.theory.proofs.Declared.{Phase, Idle, Active, Running, Recharging, Ready, Waiting, Server, Task, Resource, State, Event, Lock}
-use Rattle.model.specs.State.{places, serverAt, taskAt, resourceAt, here, present, idle, active, running, recharging, suspended, owned, ownerNo, ownerOf, next, served, runningAt, runningFor, executorOf, executing}
+use Rattle.theory.proofs.Declared.{Idle, Recharging, Ready, Waiting, Server, Task, Resource, State, Event, Lock}
+use Rattle.model.specs.State.{places, serverAt, taskAt, resourceAt, here, present, running, recharging, suspended, owned, ownerNo, ownerOf, next, served, runningAt, runningFor, executorOf, executing}
 use Rattle.model.specs.Events.{withServers, withPhase, withMode, enqueued, joined, restedServer, rested, eachServer, restedEnd, locked, changed, acting}
 use Rattle.model.specs.Step.{endsAt, stateAfter, stepped}
 use Rattle.model.proofs.Chain.{here-below, served-here, end-itself, same-served}
@@ -12,11 +12,11 @@ use Rattle.model.proofs.Room.{queue-room, executing-waits}
 use Rattle.theory.specs.Runs.{spins}
 use Rattle.theory.specs.Rules.{Proper, Inherits, ExecutorsStay, ExecutesNowhere, only, LockedBehind}
 use Rattle.theory.proofs.Calm.{asleep, loose-calm}
-use Rattle.theory.proofs.Executing.{runs-for, runs-served, runs-ready, runs-ended}
+use Rattle.theory.proofs.Executing.{runs-for, runs-served, runs-ready, runs-ended, Way}
 use Rattle.theory.proofs.Serving.{each-at}
 use Rattle.theory.proofs.StacksAndQueues.{touched-shows, touched-reads}
 use Rattle.theory.proofs.Locking.{owner-here, link-others, ends-after-wait, new-end}
-use Rattle.theory.proofs.Steps.{Way, properly, executor-none, nobody-serves, after-here, after-server, after-resource, after-running, task-is, rest-by, same-for, executor-kept, executor-taken, executor-lost, executor-same}
+use Rattle.theory.proofs.Steps.{properly, executor-none, nobody-serves, after-here, after-server, after-resource, after-running, task-is, rest-by, same-for, executor-kept, executor-taken, executor-lost, executor-same}
 use Rattle.model.proofs.Variants.{recharging-is}
 use Rattle.theory.proofs.Readings.{resting, for-running, for-served, running-for, running-here, rests-at, spins-by}
 use Rattle.theory.proofs.Sleeping.{rested-set, rested-other, rested-still, rested-off}

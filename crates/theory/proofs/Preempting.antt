@@ -6,9 +6,8 @@ use Rattle.model.specs.State.{serverAt, here, running, runningFor, executorOf}
 use Rattle.model.specs.Events.{withPhase, phased}
 use Rattle.model.specs.Step.{stateAfter, stepped}
 use Rattle.theory.specs.Rules.{Proper, ExecutorsStay, Preempted}
-use Rattle.theory.proofs.Executing.{runs-for}
-use Rattle.theory.proofs.Soundness.{served-executes}
-use Rattle.theory.proofs.Steps.{Way, properly, nobody-serves, ends-stay, executor-chosen, executor-stays}
+use Rattle.theory.proofs.Executing.{runs-for, Way, served-executes}
+use Rattle.theory.proofs.Steps.{properly, nobody-serves, ends-stay, executor-chosen, executor-stays}
 use Rattle.theory.proofs.Readings.{for-running, for-here, rests-at}
 use Rattle.theory.proofs.Storing.{stored-server, stored-rest, stored-for}
 

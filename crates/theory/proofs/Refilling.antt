@@ -1,15 +1,16 @@
 -- Recharge: the server has its budget again, and nobody executes elsewhere for it. Assumes nothing.
-use Rattle.theory.proofs.Kit.{_≡_, refl, sym, ap, _∙_, true, false, ℕ}
+use Rattle.theory.proofs.Kit.{_≡_, refl, sym, ap, _∙_, false, ℕ}
 use Rattle.laws.proofs.Cases.{split, holds-fails, unheld-fails}
-use Rattle.theory.proofs.Declared.{Phase, Idle, Active, Running, Recharging, Server, State, Event, Recharge}
-use Rattle.model.specs.State.{serverAt, taskAt, suspended, running, recharging, served}
+use Rattle.theory.proofs.Declared.{Server, State, Event, Recharge}
+use Rattle.model.specs.State.{serverAt, taskAt, suspended, running, served}
 use Rattle.model.specs.Events.{refilled, rechargedPhase, recharged}
 use Rattle.model.specs.Step.{stateAfter, stepped}
 use Rattle.theory.specs.Rules.{Proper, ExecutorsStay, nothing, Recharged}
-use Rattle.theory.proofs.Steps.{Way, properly, ends-stay}
+use Rattle.theory.proofs.Steps.{properly, ends-stay}
 use Rattle.model.proofs.Variants.{recharging-is}
 use Rattle.theory.proofs.Readings.{for-running, rests-at}
 use Rattle.theory.proofs.Storing.{stored-server, stored-rest, stored-executor}
+use Rattle.theory.proofs.Executing.{Way}
 
 module _ (st : State) (s : ℕ) (w : Way st (Recharge (record { 0 = s }))) where
   abbrev e : Event

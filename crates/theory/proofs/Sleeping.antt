@@ -10,9 +10,10 @@ use Rattle.model.specs.Step.{stateAfter, stepped}
 use Rattle.model.proofs.Chain.{here-below}
 use Rattle.theory.specs.Rules.{Proper, Rest, ExecutorsStay, TaskIs, only, nothing, Slept, Woken}
 use Rattle.theory.proofs.Serving.{each-at}
-use Rattle.theory.proofs.Steps.{Way, properly, after-server, task-is, rest-by, ends-stay, same-for, executor-lost, executor-same, executors-stay}
+use Rattle.theory.proofs.Steps.{properly, after-server, task-is, rest-by, ends-stay, same-for, executor-lost, executor-same, executors-stay}
 use Rattle.model.proofs.Variants.{idle-is}
 use Rattle.theory.proofs.Readings.{resting, for-running, for-served, rests-at}
+use Rattle.theory.proofs.Executing.{Way}
 
 -- "Active and Running servers serving it become Idle": all that do not recharge
 at-rest : (x : Server) → (active (x .phase) || running (x .phase)) ≡ false → recharging (x .phase) ≡ false → withPhase Idle x ≡ x

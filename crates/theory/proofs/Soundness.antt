@@ -12,7 +12,7 @@ use Rattle.laws.proofs.Standing.{stands-points}
 use Rattle.laws.specs.Links.{Leads}
 use Rattle.reordering.specs.Run.{after, log, Each, Never}
 use Rattle.theory.proofs.Declared.{TaskNo, State, Event, Wake, Suspend, Dispatch, Preempt, Elapse, Recharge, Lock, Unlock, Table}
-use Rattle.model.specs.State.{places, taskAt, resourceAt, owned, ownerNo, served, here, placed, runningAt, runningFor, executorOf, executing, executes, next}
+use Rattle.model.specs.State.{places, taskAt, resourceAt, owned, ownerNo, served, here, runningAt, runningFor, executorOf, executing, executes, next}
 use Rattle.model.specs.Shape.{Shaped}
 use Rattle.model.specs.Events.{firstWaiter, locked, unlocked, changed, acting}
 use Rattle.model.specs.Step.{endsAt, tests, stateAfter, free, stepped, move}
@@ -28,8 +28,8 @@ use Rattle.model.proofs.Variants.{number-owned}
 use Rattle.theory.specs.Runs.{Accepted, reached, refusedBy, executesIn, Holds, answers}
 use Rattle.theory.proofs.Frames.{settled-shaped, changed-shaped}
 use Rattle.theory.proofs.Calm.{Calm, loose-calm, settled-loose}
-use Rattle.theory.proofs.Readings.{for-running, for-served, running-for, running-here, executes-by}
-use Rattle.theory.proofs.Executing.{runs-ready, runs-ended, runs-for, runs-served}
+use Rattle.theory.proofs.Readings.{for-running, running-for, executes-by}
+use Rattle.theory.proofs.Executing.{runs-ready, runs-ended, runs-for, runs-served, served-executes}
 use Rattle.theory.proofs.Serving.{wake-calm, sleep-calm, dispatch-calm, preempt-calm, recharge-calm, elapse-calm}
 use Rattle.theory.proofs.Locking.{grant-calm, free-calm, wait-calm}
 use Rattle.theory.proofs.Passing.{pass-calm}
@@ -161,12 +161,6 @@ module _ (st : State) (facts : Loose st) where
   holder-owns : (t r : ℕ) → here st t ≡ true → Holds st t r → ownerNo (resourceAt st r .owner) ≡ t
   holder-owns t r u h = rw (← (h .there)) (stands-points (loose-stacks st facts) (here-below st) t (h .place) u (h .within))
 
-  pub served-executes : (t s : ℕ) → here st t ≡ true → runningFor st t s ≡ true → executing st t ≡ true
-  unfolding executing
-  served-executes t s u h =
-      let r = for-running st t s h in
-      and-both (here st t) _ u (ap (λ x. placed (taskAt st x .runs)) (sym (for-served st t s h)) ∙ facts .serves s (running-here st s r) r)
-
   pub executes-for : (t s : ℕ) → executesIn st t s ≡ true → runningFor st t s ≡ true
   unfolding executes
   executes-for t s h = running-for st t s (and-left (runningAt st s) _ (and-left (executes st s) _ h)) (eqb-true _ t (and-right (executes st s) _ h))
@@ -190,7 +184,7 @@ module _ (st : State) (facts : Loose st) where
       omega (arith, k, ap bit y, ap bit in-it, count-zero places (λ j. false) (λ i l. refl)))
       (λ n.
       count-zero places (executesIn st t)
-      (λ s l. unheld-fails _ (λ h. holds-fails (served-executes t s u (executes-for t s h)) n))
+      (λ s l. unheld-fails _ (λ h. holds-fails (served-executes st facts t s u (executes-for t s h)) n))
       ∙ sym (ap bit n))
 
 pub one-owner
