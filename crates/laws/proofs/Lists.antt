@@ -1,6 +1,6 @@
 -- Laws of lists that the kit lacks: a store seen by cases, in one list and in two, what it leaves, and a list of one value. Assumes nothing.
 use mathlib.Core.Path.{_≡_, refl, ap}
-use mathlib.Core.List.{List, [], _∷_, map}
+use mathlib.Core.List.{List, [], _∷_}
 use mathlib.Core.Logic.{_⊎_, inl, inr, ⊎-elim}
 use Prim.Native.Nat.{ℕ, zero, suc, _<_}
 use native.Mathlib.Omega.{arith}
@@ -48,13 +48,3 @@ module _ {ℓ} {A : Type ℓ} where
   replicate-at zero i a = refl
   replicate-at (suc n) zero a = refl
   replicate-at (suc n) (suc i) a = replicate-at n i a
-
-  -- storing the one value changes nothing
-  pub set-replicate : (n i : ℕ) (a : A) → set (replicate n a) i a ≡ replicate n a
-  set-replicate zero i a = refl
-  set-replicate (suc n) zero a = refl
-  set-replicate (suc n) (suc i) a = ap (λ l. a ∷ l) (set-replicate n i a)
-
-  pub map-replicate {κ} : {B : Type κ} (f : A → B) (n : ℕ) (a : A) → map f (replicate n a) ≡ replicate n (f a)
-  map-replicate f zero a = refl
-  map-replicate f (suc n) a = ap (λ l. f a ∷ l) (map-replicate f n a)
