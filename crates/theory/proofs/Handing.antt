@@ -18,7 +18,7 @@ use Rattle.theory.specs.Rules.{Proper, Through, ExecutorsStay, only, not
 use Rattle.theory.proofs.Executing.{runs-ended, Way}
 use Rattle.theory.proofs.Passing as T
 use Rattle.theory.proofs.Steps.{properly, executor-none, nobody-serves, after-server, after-resource, task-is, rest-by, same-for, executor-kept, executor-taken, executor-chosen, executor-same}
-use Rattle.theory.proofs.Readings.{for-served}
+use Rattle.theory.proofs.Readings.{other-for}
 use Rattle.theory.proofs.Lambda.{served-leads}
 use Rattle.laws.proofs.Ends.{leads-last, through-end, apart-end}
 
@@ -151,8 +151,7 @@ module _ (st : State) (t r : ℕ) (some : 0 < resourceAt st r .waiting) (way : W
       (λ s v.
       ⊎-elim
       (λ q.
-      unheld-fails _ (λ f. n (inr (sym (for-served after y s f) ∙ after-mid s ∙ q .1)))
-      ∙ sym (unheld-fails _ (λ f. n (inl (sym (for-served st y s f) ∙ q .0)))))
+      other-for after y s (λ p. n (inr (sym p ∙ after-mid s ∙ q .1))) ∙ sym (other-for st y s (λ p. n (inl (sym p ∙ q .0)))))
       (λ q. same-for st e way y s (after-mid s ∙ q) (ap (λ (x : Server). running (x .phase)) (after-server st e s ∙ server-now s)))
       (T.ends-after-pass st t r some way s v))
 

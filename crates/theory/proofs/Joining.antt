@@ -15,7 +15,7 @@ use Rattle.theory.proofs.StacksAndQueues.{touched-shows, touched-reads,
 use Rattle.theory.proofs.Locking.{owner-here, link-others, ends-after-wait, apart, ended, locked-is, servers-stay, servers-rest, now-next}
 use Rattle.theory.proofs.Steps.{properly, executor-none, nobody-serves, after-here, after-server, after-resource, after-running, task-is, rest-by, same-for, executor-kept, executor-taken, executor-lost, executor-same}
 use Rattle.model.proofs.Variants.{recharging-is}
-use Rattle.theory.proofs.Readings.{resting, for-running, for-served, running-for, running-here, rests-at, spins-by}
+use Rattle.theory.proofs.Readings.{resting, for-running, for-served, running-for, running-here, spins-by, off-for, other-for}
 use Rattle.theory.proofs.Sleeping.{rested-set, rested-other, rested-still, rested-off}
 
 module _ (st : State) (t r : ℕ) (taken : owned (resourceAt st r .owner) ≡ true) (w : Way st (Lock (record { 0 = t }) r)) where
@@ -129,11 +129,7 @@ module _ (st : State) (t r : ℕ) (taken : owned (resourceAt st r .owner) ≡ tr
     rests q f = at ∙ rested-set mid j s mid-used (sym (after-mid s) ∙ q) f
 
     rests-off : served after s ≡ j → runningFor after j s ≡ false
-    rests-off q =
-        unheld-fails _
-        (λ f.
-        holds-fails (for-running after j s f)
-        (rests-at after s (ap (λ (x : Server). running (x .phase)) (after-server st e s ∙ at) ∙ rested-off mid j s mid-used (sym (after-mid s) ∙ q))))
+    rests-off q = off-for after j s (ap (λ (x : Server). running (x .phase)) (after-server st e s ∙ at) ∙ rested-off mid j s mid-used (sym (after-mid s) ∙ q))
 
     -- those that do not come, or recharge, stay; those that were there rest already
     stays : ((served st s ≡ t) × (recharging (serverAt st s .phase) ≡ false) → ⊥) → serverAt (changed st e) s ≡ serverAt st s
@@ -176,7 +172,7 @@ module _ (st : State) (t r : ℕ) (taken : owned (resourceAt st r .owner) ≡ tr
       (suspended (taskAt st j .mode))
       (λ z. holds-fails (ap (λ x. runningFor after x s) (sym is-end) ∙ f) (rests-off z s h to-end))
       (λ z. n (inr (is-end, z))))
-      ∙ sym (unheld-fails _ (λ f. n (inl (sym (for-served st v s f) ∙ q)))))
+      ∙ sym (other-for st v s (λ p. n (inl (sym p ∙ q)))))
       (λ m.
       let apart-from : served st s ≡ t → ⊥ = eqb-false _ t m in
       same-for st e w v s (others-stay s h apart-from)
@@ -186,9 +182,8 @@ module _ (st : State) (t r : ℕ) (taken : owned (resourceAt st r .owner) ≡ tr
   nowhere =
       executor-lost st e w t (w .ground .0)
       (λ s u.
-      unheld-fails _
-      (λ f.
-      let q : served after s ≡ t = for-served after t s f in
+      other-for after t s
+      (λ q.
       split
       (eqb (served st s) t)
       (λ y. apart st t r taken w (sym (joins s u (eqb-true _ t y)) ∙ q))
