@@ -1,10 +1,10 @@
 -- Soundness is kept, and what it says over all runs. An accepted event's change is calm (the laws of Serving, Locking and Passing, put
 -- together by the grounds that its tests leave), rule H makes a calm state loose, and processors are counted by themselves (Processors.antt). So
--- `free` keeps a state loose and shaped (`free-kept`), a step keeps it sound (`kept`), and every state that a list of events reaches from a fresh
--- table is sound (`sound-always`). From that: refusal 1 never comes, a task executes in one server and does where a Running server serves it, a
+-- an accepted event keeps a state loose and shaped (`after-loose`), a step keeps it sound (`kept`), and every state that a list of events reaches from
+-- a fresh table is sound (`sound-always`). From that: refusal 1 never comes, a task executes in one server and does where a Running server serves it, a
 -- resource has one owner, and waiting never goes in a circle. Assumes nothing.
 use Rattle.theory.proofs.Kit.{_≡_, refl, sym, _∙_, ap, true, true≢false, false, List, [], _∷_, ℕ, arith, eqb, eqb-true, eqb-false, eq-eqb, suc}
-use Rattle.laws.specs.Tests.{firstOf, without, bit}
+use Rattle.laws.specs.Tests.{firstOf, bit}
 use Rattle.laws.specs.Loops.{countTo}
 use Rattle.laws.proofs.Cases.{split, holds-fails, unheld-fails, and-left, and-right, and-both}
 use Rattle.laws.proofs.Count.{count-zero, count-but-one}
@@ -15,7 +15,7 @@ use Rattle.theory.proofs.Declared.{TaskNo, State, Event, Wake, Suspend,
 use Rattle.model.specs.State.{places, resourceAt, owned, ownerNo, served, here, runningAt, runningFor, executorOf, executing, executes, next}
 use Rattle.model.specs.Shape.{Shaped}
 use Rattle.model.specs.Events.{locked, unlocked, changed, acting}
-use Rattle.model.specs.Step.{tests, stateAfter, free, stepped, move}
+use Rattle.model.specs.Step.{tests, stateAfter, stepped, move}
 use Rattle.model.specs.Sound.{sound}
 use Rattle.model.specs.Fresh.{freshState}
 use Rattle.model.proofs.Chain.{here-below, open-unclosed}
@@ -73,18 +73,11 @@ module _ (st : State) (shaped : Shaped st) (facts : Loose st) where
   changed-calm (Unlock t r) g = unlock-calm st t r (record { shaped = shaped; facts = facts; ground = g })
 
   -- an event that no test refuses, with rule H
-  after-loose : (e : Event) → Grounds st e → Shaped (stateAfter st e) × Loose (stateAfter st e)
+  pub after-loose : (e : Event) → Grounds st e → Shaped (stateAfter st e) × Loose (stateAfter st e)
   unfolding stateAfter
   after-loose e g =
       let d = changed-shaped st shaped e in
       (settled-shaped st (changed st e) (acting st e) d, settled-loose st (changed st e) (acting st e) d (changed-calm e g))
-
--- `free` keeps a state loose and shaped
-pub free-kept : (st : State) (e : Event) → Shaped st → Loose st → Shaped (free st e .state) × Loose (free st e .state)
-unfolding free
-free-kept st e shaped facts =
-    outcome-has (λ x. Shaped x × Loose x) (firstOf (without 8 (tests st e))) st e (shaped, facts)
-    (λ h. after-loose st shaped facts e (grounds st e h))
 
 -- soundness is kept by every event,
 pub kept : (st : State) (e : Event) → Shaped st → sound st ≡ true → Shaped (stepped st e .state) × (sound (stepped st e .state) ≡ true)
