@@ -10,7 +10,7 @@ use Rattle.theory.specs.Runs.{spins}
 use Rattle.theory.specs.Rules.{Proper, ExecutorsStay, only, Dispatched}
 use Rattle.model.proofs.Variants.{active-is}
 use Rattle.theory.proofs.Executing.{runs-for, Way, served-executes}
-use Rattle.theory.proofs.Steps.{properly, after-here, ends-stay, executor-kept, executor-serves, executor-some}
+use Rattle.theory.proofs.Steps.{properly, after-here, ends-stay, by-rule-h}
 use Rattle.theory.proofs.Readings.{for-here, running-for, runs-at, spins-by, executes-by, off-for, other-for}
 use Rattle.theory.proofs.Storing.{stored-server, stored-rest, stored-for, stored-executor}
 
@@ -59,7 +59,7 @@ module _ (st : State) (s : ℕ) (w : Way st (Dispatch (record { 0 = s }))) where
     apart q = holds-fails (ap (runningFor st t) (sym q) ∙ runs-for st (w .facts) t y) (was-off t)
 
     kept : executorOf after t ≡ executorOf st t
-    kept = let f = runs-for st (w .facts) t y in executor-kept st e w t target-here (stored t _ (for-here st t _ f) apart ∙ f)
+    kept = let f = runs-for st (w .facts) t y in by-rule-h st e w t target-here .keeps (stored t _ (for-here st t _ f) apart ∙ f)
 
     spins-now : spins after s ≡ true
     spins-now = spins-by after s runs-now (λ q. apart (sym kept ∙ ap (executorOf after) (sym end) ∙ q))
@@ -67,7 +67,7 @@ module _ (st : State) (s : ℕ) (w : Way st (Dispatch (record { 0 = s }))) where
   module _ (n : executing st t ≡ false) where
     taken : executorOf after t ≡ s
     taken =
-        let f = executor-serves st e w t target-here (executor-some st e w t target-here s (running-for after t s runs-now end)) in
+        let f = by-rule-h st e w t target-here .serves (by-rule-h st e w t target-here .some s (running-for after t s runs-now end)) in
         split
         (eqb (executorOf after t) s)
         (λ y. eqb-true _ s y)

@@ -17,7 +17,7 @@ use Rattle.model.proofs.RuleH.{settled-next}
 use Rattle.theory.specs.Rules.{Proper, Through, ExecutorsStay, only, nothing, Passed, HandedOver}
 use Rattle.theory.proofs.Executing.{runs-ended, Way}
 use Rattle.theory.proofs.Passing as T
-use Rattle.theory.proofs.Steps.{properly, executor-none, nobody-serves, after-server, after-resource, task-is, rest-by, same-for, executor-kept, executor-taken, executor-chosen, executor-same}
+use Rattle.theory.proofs.Steps.{properly, executor-none, nobody-serves, after-server, after-resource, task-is, rest-by, same-for, by-rule-h, executor-chosen, executor-same}
 use Rattle.theory.proofs.Readings.{other-for}
 use Rattle.theory.proofs.Lambda.{served-leads}
 use Rattle.laws.proofs.Ends.{leads-last, through-end, apart-end}
@@ -214,9 +214,9 @@ module _ (st : State) (t r : ℕ) (some : 0 < resourceAt st r .waiting) (way : W
     through = goes-through;
     apart = goes-apart;
     executors = others;
-    goes-with-heir = executor-taken st e way h (T.heir-used st t r some way) heir-free;
+    goes-with-heir = by-rule-h st e way h (T.heir-used st t r some way) .takes heir-free;
     heir-goes-on = executor-chosen st e way h (T.heir-used st t r some way) heir-free;
-    stays-with-releaser = executor-kept st e way t used;
+    stays-with-releaser = by-rule-h st e way t used .keeps;
     releaser-goes-on = λ f. executor-chosen st e way t used f f;
   }
 

@@ -13,7 +13,7 @@ use Rattle.theory.specs.Rules.{Proper, Inherits, ExecutorsStay, Executes
 use Rattle.theory.proofs.Executing.{runs-for, runs-served, runs-ready, Way}
 use Rattle.theory.proofs.StacksAndQueues.{touched-shows, touched-reads, touched}
 use Rattle.theory.proofs.Locking.{owner-here, link-others, ends-after-wait, apart, ended, locked-is, servers-stay, servers-rest, now-next}
-use Rattle.theory.proofs.Steps.{properly, executor-none, nobody-serves, after-here, after-server, after-resource, after-running, task-is, rest-by, same-for, executor-kept, executor-taken, executor-lost, executor-same}
+use Rattle.theory.proofs.Steps.{properly, executor-none, nobody-serves, after-here, after-server, after-resource, after-running, task-is, rest-by, same-for, by-rule-h, executor-lost, executor-same}
 use Rattle.model.proofs.Variants.{recharging-is}
 use Rattle.theory.proofs.Readings.{resting, for-running, for-served, running-for, running-here, spins-by, off-for, other-for}
 use Rattle.theory.proofs.Sleeping.{rested-set, rested-other, rested-still, rested-off}
@@ -84,7 +84,7 @@ module _ (st : State) (t r : ℕ) (taken : owned (resourceAt st r .owner) ≡ tr
 
     end-executed : executing st j ≡ false → executorOf after j ≡ y
     end-executed n =
-        executor-taken st e w j end-used
+        by-rule-h st e w j end-used .takes
         (rw (executor-none st j end-used n) (nobody-serves after j))
         (running-for after j y runs-now ends-now)
 
@@ -100,7 +100,7 @@ module _ (st : State) (t r : ℕ) (taken : owned (resourceAt st r .owner) ≡ tr
 
       end-kept : executorOf after j ≡ x
       end-kept =
-          executor-kept st e w j end-used
+          by-rule-h st e w j end-used .keeps
           (running-for after j x (still-runs x ∙ x-runs) (others-stay x (running-here st x x-runs) (λ q. apart st t r taken w (sym x-ends ∙ q)) ∙ x-ends))
 
       locker-spins : spins after y ≡ true

@@ -16,7 +16,7 @@ use Rattle.model.proofs.Chosen.{chosen-alone}
 use Rattle.model.proofs.Grounds.{Grounds}
 use Rattle.model.proofs.Sound.{Loose}
 use Rattle.model.proofs.RuleH.{settled-here, settled-for, settled-executor, settled-chooses, settled-served}
-use Rattle.theory.specs.Rules.{Proper, TaskIs, Rest, EndsStay, ExecutorsStay, ExecutesNowhere, nothing}
+use Rattle.theory.specs.Rules.{Proper, TaskIs, Rest, EndsStay, ExecutorsStay, ExecutesNowhere, nothing, RuleH}
 use Rattle.theory.proofs.Frames.{heads-here, heads-present, heads-kept}
 use Rattle.theory.proofs.Executing.{runs-for, now-here, inside, rule-h, Way, served-executes, runs-ready}
 use Rattle.theory.proofs.Refusals.{goes-grounds, goes-after, goes-loose}
@@ -150,17 +150,8 @@ module _ (st : State) (e : Event) (w : Way st e) where
 
   -- who executes
   module _ (t : ℕ) (used : here st t ≡ true) where
-    pub executor-kept : runningFor after t (executorOf st t) ≡ true → executorOf after t ≡ executorOf st t
-    executor-kept = rule-h st e (w .shaped) t used .keeps
-
-    pub executor-taken : runningFor after t (executorOf st t) ≡ false → runningFor after t (acting st e) ≡ true → executorOf after t ≡ acting st e
-    executor-taken = rule-h st e (w .shaped) t used .takes
-
-    pub executor-serves : executing after t ≡ true → runningFor after t (executorOf after t) ≡ true
-    executor-serves = rule-h st e (w .shaped) t used .serves
-
-    pub executor-some : (s : ℕ) → runningFor after t s ≡ true → executing after t ≡ true
-    executor-some = rule-h st e (w .shaped) t used .some
+    pub by-rule-h : RuleH st after (acting st e) t
+    by-rule-h = rule-h st e (w .shaped) t used
 
     pub executor-chosen : runningFor after t (executorOf st t) ≡ false → runningFor after t (acting st e) ≡ false → executorOf after t ≡ chosen after t
     unfolding stateAfter settled budgetAt
@@ -178,7 +169,7 @@ module _ (st : State) (e : Event) (w : Way st e) where
     executor-lost f =
         let off : (s : ℕ) → runningFor after t s ≡ false =
         λ s. unheld-fails _ (λ h. holds-fails h (f s (sym (after-here st e s) ∙ for-here after t s h))) in
-        let none : executing after t ≡ false = unheld-fails _ (λ y. holds-fails (executor-serves y) (off _)) in
+        let none : executing after t ≡ false = unheld-fails _ (λ y. holds-fails (by-rule-h .serves y) (off _)) in
         (none, executor-none after t (after-here st e t ∙ used) none)
 
     -- who executed goes on, and where nobody did nobody does
@@ -189,7 +180,7 @@ module _ (st : State) (e : Event) (w : Way st e) where
     executor-stays keep fewer =
         split
         (executing st t)
-        (λ y. executor-kept (keep y))
+        (λ y. by-rule-h .keeps (keep y))
         (λ n. executor-lost (λ s u. unheld-fails _ (λ h. holds-fails (fewer s u h) n)) .1 ∙ sym (executor-none st t used n))
 
     pub executor-same : ((s : ℕ) → here st s ≡ true → runningFor after t s ≡ runningFor st t s) → executorOf after t ≡ executorOf st t
