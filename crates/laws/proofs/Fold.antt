@@ -28,12 +28,6 @@ module _ {ℓ} {A : Type ℓ} where
   pub fold-done : (f : ℕ → A → A) (i n : ℕ) (a y : A) → i ≤ n → n ≤ i → y ≡ foldTo i f a → y ≡ foldTo n f a
   fold-done f i n a y = turns-done (λ j. foldTo j f a) i n y
 
-  -- turns equal one by one
-  pub fold-same : (f g : ℕ → A → A) (n : ℕ) (a : A) → ((i : ℕ) → i < n → (x : A) → f i x ≡ g i x) → foldTo n f a ≡ foldTo n g a
-  unfolding foldTo
-  fold-same f g zero a e = refl
-  fold-same f g (suc n) a e = e n (omega arith) (foldTo n f a) ∙ ap (g n) (fold-same f g n a (λ i l x. e i (omega arith) x))
-
   -- what each turn keeps, all turns keep
   pub fold-keeps {κ}
       : (P : A → Type κ) (f : ℕ → A → A) (n : ℕ) → ((i : ℕ) → i < n → (x : A) → P x → P (f i x)) → (a : A) → P a → P (foldTo n f a)

@@ -1,12 +1,12 @@
 -- Laws of lists that the kit lacks: a store seen by cases, in one list and in two, what it leaves, and a list of one value. Assumes nothing.
-use mathlib.Core.Path.{_≡_, refl, sym, ap, _∙_}
-use mathlib.Core.List.{List, [], _∷_, map}
+use mathlib.Core.Path.{_≡_, refl, ap}
+use mathlib.Core.List.{List, [], _∷_}
 use mathlib.Core.Logic.{_⊎_, inl, inr, ⊎-elim}
 use Prim.Native.Nat.{ℕ, zero, suc, _<_}
 use native.Mathlib.Omega.{arith}
 use lib.Dec.{eqb}
-use lib.ListN.{length, getD, set, replicate, length-replicate, getD-replicate}
-use lib.Seq.{getD-set-same, getD-set-other, ext-getD}
+use lib.ListN.{length, getD, set, replicate}
+use lib.Seq.{getD-set-same, getD-set-other}
 use borrow.Author.Tests.{eqb-true, eqb-false}
 use Rattle.laws.specs.Tests.{if_then_else_}
 use Rattle.laws.proofs.Cases.{split}
@@ -48,18 +48,3 @@ module _ {ℓ} {A : Type ℓ} where
   replicate-at zero i a = refl
   replicate-at (suc n) zero a = refl
   replicate-at (suc n) (suc i) a = replicate-at n i a
-
-  -- a list whose every place has one value is the list of that value
-  pub replicate-is : (l : List A) (a d : A) → ((i : ℕ) → i < length l → getD l i d ≡ a) → l ≡ replicate (length l) a
-  replicate-is l a d h =
-      ext-getD d l (replicate (length l) a) (sym (length-replicate (length l) a)) (λ i m. h i m ∙ sym (getD-replicate (length l) i a d m))
-
-  -- storing the one value changes nothing
-  pub set-replicate : (n i : ℕ) (a : A) → set (replicate n a) i a ≡ replicate n a
-  set-replicate zero i a = refl
-  set-replicate (suc n) zero a = refl
-  set-replicate (suc n) (suc i) a = ap (λ l. a ∷ l) (set-replicate n i a)
-
-  pub map-replicate {κ} : {B : Type κ} (f : A → B) (n : ℕ) (a : A) → map f (replicate n a) ≡ replicate n (f a)
-  map-replicate f zero a = refl
-  map-replicate f (suc n) a = ap (λ l. f a ∷ l) (map-replicate f n a)

@@ -7,7 +7,7 @@ use native.Mathlib.Numerals.{add-one}
 use native.Mathlib.Omega.{arith}
 use lib.Dec.{ltb}
 use lib.ListN.{length, getD, set, length-set}
-use lib.Seq.{getD-set-same, getD-set-other, set-getD, ext-getD}
+use lib.Seq.{getD-set-same, getD-set-other, set-getD}
 use borrow.Author.Tests.{ltb-true, ltb-false}
 use Rattle.laws.specs.Tests.{if_then_else_}
 use Rattle.laws.specs.Loops.{setTo}
@@ -71,14 +71,6 @@ module _ {ℓ} {A : Type ℓ} where
   set-kept f zero xs d e = refl
   set-kept f (suc n) xs d e =
       ap₂ (λ y a. set y n a) (set-kept f n xs d (λ i l. e i (omega arith))) (e n (omega arith)) ∙ set-getD xs n d
-
-  -- where all entries are made anew, what was there is gone
-  pub set-whole : (f : ℕ → A) (n : ℕ) (xs ys : List A) → length xs ≡ length ys → length xs ≤ n → setTo n f xs ≡ setTo n f ys
-  set-whole f n xs ys e l =
-      ext-getD (f 0) (setTo n f xs) (setTo n f ys) (length-setTo n f xs ∙ e ∙ sym (length-setTo n f ys))
-      (λ i m.
-      let k : i < length xs = omega (arith, length-setTo n f xs) in
-      set-at n i f xs (f 0) (omega arith) k ∙ sym (set-at n i f ys (f 0) (omega arith) (omega arith)))
 
   -- in a list of any length a place has what was made for it, or what it had
   pub each-cases : (n : ℕ) (f : ℕ → A) (l : List A) (d : A) (i : ℕ) → (getD (setTo n f l) i d ≡ f i) ⊎ (getD (setTo n f l) i d ≡ getD l i d)

@@ -10,7 +10,7 @@ use Rattle.model.specs.declared.Mode.{Mode}
 use Rattle.model.specs.declared.Mode.the-variants.{Suspended, Ready, Waiting}
 use Rattle.model.specs.declared.Owner.{Owner}
 use Rattle.model.specs.declared.Owner.the-variants.{Nobody, By}
-use Rattle.model.specs.State.{places, nobody, active, running, suspended, waiting, owned, ownerNo}
+use Rattle.model.specs.State.{places, nobody, idle, active, running, recharging, suspended, waiting, owned, ownerNo}
 
 pub running-is : (p : Phase) → running p ≡ true → p ≡ Running
 running-is Idle e = holds-fails e refl
@@ -23,6 +23,18 @@ active-is Idle e = holds-fails e refl
 active-is Active e = refl
 active-is Running e = holds-fails e refl
 active-is Recharging e = holds-fails e refl
+
+pub idle-is : (p : Phase) → idle p ≡ true → p ≡ Idle
+idle-is Idle e = refl
+idle-is Active e = holds-fails e refl
+idle-is Running e = holds-fails e refl
+idle-is Recharging e = holds-fails e refl
+
+pub recharging-is : (p : Phase) → recharging p ≡ true → p ≡ Recharging
+recharging-is Idle e = holds-fails e refl
+recharging-is Active e = holds-fails e refl
+recharging-is Running e = holds-fails e refl
+recharging-is Recharging e = refl
 
 pub suspended-is : (m : Mode) → suspended m ≡ true → m ≡ Suspended
 suspended-is Suspended e = refl

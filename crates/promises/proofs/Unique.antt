@@ -1,16 +1,6 @@
 -- Uniqueness of each entry point: each contract equates the answer, and the memory at exit, with a definition. Assumes nothing.
-use mathlib.Core.Path.{_≡_, refl, sym, _∙_}
-use Prim.Native.Nat.{ℕ, zero, suc}
-use Rattle.laws.proofs.Cases.{none-some}
-use Rattle.bound.specs.Numbered.{numbered}
+use mathlib.Core.Path.{refl, sym, _∙_}
 use Rattle.promises.specs.Unique.{EachUnique}
-
--- a refusal's number is told by what it stands for, 0 for none
-numbered-one : (n m : ℕ) → numbered n ≡ numbered m → n ≡ m
-numbered-one zero zero e = refl
-numbered-one zero (suc m) e = none-some e
-numbered-one (suc n) zero e = none-some (sym e)
-numbered-one (suc n) (suc m) e = cc
 
 pub each-unique : EachUnique
 each-unique = record {
@@ -20,7 +10,7 @@ each-unique = record {
   executing = λ f g p q κ a. (p κ a .0 ∙ sym (q κ a .0), refl);
   chain-end = λ f g p q κ a. (p κ a ∙ sym (q κ a), refl);
   bound = λ f g p q κ a. (p κ a ∙ sym (q κ a), refl);
-  table-refusal = λ f g p q κ a. (numbered-one _ _ (p κ a ∙ sym (q κ a)), refl);
+  table-refusal = λ f g p q κ a. (p κ a ∙ sym (q κ a), refl);
   read-text = λ f g p q κ a. (p κ a ∙ sym (q κ a), refl);
   read-number = λ f g p q κ a. (p κ a ∙ sym (q κ a), refl);
   table-to = λ f g p q κ a. (p κ a ∙ sym (q κ a), refl);

@@ -56,7 +56,7 @@ module _ (a b : State) (same : Alike a b) where
   unfolding ownerOf
   alike-owner r = rw (alike-present r, alike-resource r, alike-here (ownerNo (resourceAt b r .owner)))
 
-  alike-next : (t : ℕ) → next a t ≡ next b t
+  pub alike-next : (t : ℕ) → next a t ≡ next b t
   unfolding next
   alike-next t = rw (alike-here t, same .task t .wants, alike-owner (awaited (taskAt b t .mode)))
 

@@ -1,6 +1,6 @@
 -- Dispatch: the server spins where the task that it serves executes already, and executes it where not. Assumes nothing.
 use Rattle.theory.proofs.Kit.{_≡_, refl, sym, ap, _∙_, true, false, ℕ, eqb, eqb-true, eqb-false}
-use Rattle.laws.proofs.Cases.{split, holds-fails, unheld-fails}
+use Rattle.laws.proofs.Cases.{split, holds-fails}
 use Rattle.theory.proofs.Declared.{Running, Server, State, Event, Dispatch}
 use Rattle.model.specs.State.{serverAt, here, running, served, runningAt, runningFor, executorOf, executing, executes}
 use Rattle.model.specs.Events.{withPhase, phased}
@@ -9,10 +9,9 @@ use Rattle.model.proofs.Chain.{served-here}
 use Rattle.theory.specs.Runs.{spins}
 use Rattle.theory.specs.Rules.{Proper, ExecutorsStay, only, Dispatched}
 use Rattle.model.proofs.Variants.{active-is}
-use Rattle.theory.proofs.Executing.{runs-for}
-use Rattle.theory.proofs.Soundness.{served-executes}
-use Rattle.theory.proofs.Steps.{Way, properly, after-here, ends-stay, executor-kept, executor-serves, executor-some}
-use Rattle.theory.proofs.Readings.{for-running, for-served, for-here, running-for, runs-at, rests-at, spins-by, executes-by}
+use Rattle.theory.proofs.Executing.{runs-for, Way, served-executes}
+use Rattle.theory.proofs.Steps.{properly, after-here, ends-stay, by-rule-h}
+use Rattle.theory.proofs.Readings.{for-here, running-for, runs-at, spins-by, executes-by, off-for, other-for}
 use Rattle.theory.proofs.Storing.{stored-server, stored-rest, stored-for, stored-executor}
 
 module _ (st : State) (s : ℕ) (w : Way st (Dispatch (record { 0 = s }))) where
@@ -45,22 +44,22 @@ module _ (st : State) (s : ℕ) (w : Way st (Dispatch (record { 0 = s }))) where
   target-here : here st t ≡ true
   target-here = served-here st s (w .ground .0)
 
-  was-off : runningAt st s ≡ false
-  was-off = rests-at st s (ap running (active-is (serverAt st s .phase) (w .ground .1)))
+  was-off : (u : ℕ) → runningFor st u s ≡ false
+  was-off u = off-for st u s (ap running (active-is (serverAt st s .phase) (w .ground .1)))
 
   -- tasks that it does not serve see no difference
   others : ExecutorsStay st after (only t)
   unfolding phased
   others u v n =
       stored-executor st e w s x (w .ground .0) refl tt u v
-      (unheld-fails _ (λ f. n (sym (for-served after u s f) ∙ end)) ∙ sym (unheld-fails _ (λ f. holds-fails (for-running st u s f) was-off)))
+      (other-for after u s (λ q. n (sym q ∙ end)) ∙ sym (was-off u))
 
   module _ (y : executing st t ≡ true) where
     apart : executorOf st t ≡ s → ⊥
-    apart q = holds-fails (ap (runningAt st) (sym q) ∙ for-running st t _ (runs-for st (w .facts) t y)) was-off
+    apart q = holds-fails (ap (runningFor st t) (sym q) ∙ runs-for st (w .facts) t y) (was-off t)
 
     kept : executorOf after t ≡ executorOf st t
-    kept = let f = runs-for st (w .facts) t y in executor-kept st e w t target-here (stored t _ (for-here st t _ f) apart ∙ f)
+    kept = let f = runs-for st (w .facts) t y in by-rule-h st e w t target-here .keeps (stored t _ (for-here st t _ f) apart ∙ f)
 
     spins-now : spins after s ≡ true
     spins-now = spins-by after s runs-now (λ q. apart (sym kept ∙ ap (executorOf after) (sym end) ∙ q))
@@ -68,7 +67,7 @@ module _ (st : State) (s : ℕ) (w : Way st (Dispatch (record { 0 = s }))) where
   module _ (n : executing st t ≡ false) where
     taken : executorOf after t ≡ s
     taken =
-        let f = executor-serves st e w t target-here (executor-some st e w t target-here s (running-for after t s runs-now end)) in
+        let f = by-rule-h st e w t target-here .serves (by-rule-h st e w t target-here .some s (running-for after t s runs-now end)) in
         split
         (eqb (executorOf after t) s)
         (λ y. eqb-true _ s y)

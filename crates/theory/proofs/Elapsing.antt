@@ -10,12 +10,11 @@ use Rattle.model.specs.Events.{ownTicks, lentTicks, spinTicks, runsOut, spentSe
 use Rattle.model.specs.Step.{stateAfter, stepped}
 use Rattle.model.proofs.Chain.{here-below}
 use Rattle.theory.specs.Rules.{Proper, ExecutorsStay, nothing, Rest, Elapsed}
-use Rattle.theory.proofs.Executing.{runs-for}
+use Rattle.theory.proofs.Executing.{runs-for, Way, served-executes}
 use Rattle.theory.proofs.Serving.{each-at}
-use Rattle.theory.proofs.Soundness.{served-executes}
 use Rattle.theory.proofs.Accounts.{elapsed-adds}
-use Rattle.theory.proofs.Steps.{Way, properly, nobody-serves, after-server, task-is, rest-by, ends-stay, same-for, executor-chosen, executor-stays}
-use Rattle.theory.proofs.Readings.{for-running, for-here, running-here, rests-at}
+use Rattle.theory.proofs.Steps.{properly, nobody-serves, after-server, task-is, rest-by, ends-stay, same-for, executor-chosen, executor-stays}
+use Rattle.theory.proofs.Readings.{for-here, running-here, off-for}
 
 module _ (st : State) (n : ℕ) (w : Way st (Elapse n)) where
   abbrev e : Event
@@ -58,7 +57,7 @@ module _ (st : State) (n : ℕ) (w : Way st (Elapse n)) where
       (λ r u m. refl)
 
   off : (t s : ℕ) → runsOut st n s ≡ true → runningFor after t s ≡ false
-  off t s h = unheld-fails _ (λ r. holds-fails (for-running after t s r) (rests-at after s (ap running (recharges s h))))
+  off t s h = off-for after t s (ap running (recharges s h))
 
   still : (t s : ℕ) → here st s ≡ true → runsOut st n s ≡ false → runningFor after t s ≡ runningFor st t s
   still t s u m = same-for st e w t s (ends-stay st e w tt s u) (ap running (stays s u m))

@@ -1,108 +1,92 @@
--- Each rule of the paper fixes the whole next state: two states that it allows differ past the counts only. Entries are given one by one; with them
--- every link and every chain end is, so that the best Running server of a set is the same one in both; and then the executors are. Assumes nothing.
-use Rattle.theory.proofs.Kit.{_≡_, refl, sym, ap, _∙_, Bool, true, false, _⊎_, inl, inr, ⊎-elim, ℕ, _+_, eqb, eqb-true, eqb-false}
+-- Each rule of the paper fixes the whole next state: two states that it allows differ past the counts only. A rule names an entry, the same in all
+-- states that it allows, or does not touch it. With the entries every link and every chain end is given, so that the best Running server of
+-- a set is the same one in both; and then the executors are. Each rule cites that by what it names. Assumes nothing.
+use Rattle.theory.proofs.Kit.{_≡_, refl, sym, ap, _∙_, Bool, true, false, _⊎_, inl, inr, ⊎-elim, ℕ, _+_, _-_, eqb, eqb-true, eqb-false}
 use Rattle.laws.proofs.Cases.{split, holds-fails}
-use Rattle.theory.proofs.Declared.{Phase, Suspended, Ready, Waiting, Server, Task, State}
-use Rattle.model.specs.State.{serverAt, taskAt, resourceAt, inUse, here, present, idle, recharging, suspended, awaited, ownerNo, ownerOf, next, served, runningAt, runningFor, executorOf, executing}
+use Rattle.theory.proofs.Declared.{Suspended, Ready, Waiting, Server, Task, Resource, State}
+use Rattle.model.specs.State.{nobody, serverAt, taskAt, resourceAt, here, present, idle, recharging, suspended, awaited, ownerNo, ownerOf, next, served, runningAt, runningFor, executorOf, executing}
 use Rattle.model.specs.RuleH.{budgetAt, chosen, runsIn, withRuns}
 use Rattle.model.specs.Events.{withMode, runsOut, tickedTask, pushed, popped}
 use Rattle.model.proofs.Chain.{same-served}
 use Rattle.model.proofs.Chosen.{chosen-alone}
 use Rattle.theory.specs.Runs.{SameInUse}
-use Rattle.theory.specs.Rules.{Inherits, TaskIs, Rest, only, nothing, Dispatched, Preempted, Elapsed, Recharged, Slept, Woken, Granted, LockedBehind, Freed, Passed}
+use Rattle.theory.specs.Rules.{TaskIs, Rest, ExecutorsStay, only, nothing, Dispatched, Preempted, Elapsed, Recharged, Slept, Woken, Granted, LockedBehind, Freed, Passed}
 use Rattle.theory.proofs.Readings.{for-here}
+use Rattle.theory.proofs.Steps.{nobody-serves}
+use Rattle.theory.proofs.Frames.{heads-here, heads-present}
 
--- whether a number is touched can be told
-abbrev Told : (ℕ → Type 0) → Type 0
-Told touched = (i : ℕ) → touched i ⊎ (touched i → ⊥)
+-- what all states that a rule allows have in common: a value; a task's record; an executor, which may be one server where that runs for the task and
+-- the best of the set where not
+abbrev Same : (State → Type 0) → (A : Type 0) → (State → A) → Type 0
+Same R A f = (a b : State) → R a → R b → f a ≡ f b
 
-told-nothing : Told nothing
-told-nothing i = inr (λ x. x)
+abbrev SameTask : (State → Type 0) → ℕ → Type 0
+SameTask R t = (k : Task) × ((a : State) → R a → TaskIs a t k)
 
-told-only : (i : ℕ) → Told (only i)
-told-only i j = split (eqb j i) (λ y. inl (eqb-true j i y)) (λ n. inr (eqb-false j i n))
+abbrev Follows : (State → Type 0) → ℕ → Type 0
+Follows R t =
+    (y : ℕ) ×
+    ((a : State) → R a → (runningFor a t y ≡ true → executorOf a t ≡ y) × (runningFor a t y ≡ false → executorOf a t ≡ chosen a t))
 
-told-both : {P Q : Type 0} → P ⊎ (P → ⊥) → Q ⊎ (Q → ⊥) → (P × Q) ⊎ (P × Q → ⊥)
-told-both p q = ⊎-elim (λ x. ⊎-elim (λ y. inl (x, y)) (λ n. inr (λ z. n (z .1))) q) (λ n. inr (λ z. n (z .0))) p
+module _
+    (st : State) (R : State → Type 0) (clock : ℕ) (S T Q E : ℕ → Type 0)
+    (keeps : (a : State) → R a → Rest st a clock S T Q × ExecutorsStay st a E)
+    (server : (s : ℕ) → here st s ≡ true → Same R Server (λ a. serverAt a s) ⊎ (S s → ⊥))
+    (task : (t : ℕ) → here st t ≡ true → SameTask R t ⊎ (T t → ⊥))
+    (resource : (r : ℕ) → present st r ≡ true → Same R Resource (λ a. resourceAt a r) ⊎ (Q r → ⊥))
+    (executor : (t : ℕ) → here st t ≡ true → (Same R ℕ (λ a. executorOf a t) ⊎ Follows R t) ⊎ (E t → ⊥))
+    (a b : State) (x : R a) (y : R b)
+  where
+    left : Rest st a clock S T Q
+    left = keeps a x .0
 
-told-three : {P Q R : Type 0} → P ⊎ (P → ⊥) → Q ⊎ (Q → ⊥) → R ⊎ (R → ⊥) → (P × Q × R) ⊎ (P × Q × R → ⊥)
-told-three p q r = ⊎-elim (λ x. inl (x .0, x .1 .0, x .1 .1)) (λ n. inr (λ z. n (z .0, (z .1, z .2)))) (told-both p (told-both q r))
+    right : Rest st b clock S T Q
+    right = keeps b y .0
 
-told-either : {P Q : Type 0} → P ⊎ (P → ⊥) → Q ⊎ (Q → ⊥) → (P ⊎ Q) ⊎ (P ⊎ Q → ⊥)
-told-either p q = ⊎-elim (λ x. inl (inl x)) (λ n. ⊎-elim (λ y. inl (inr y)) (λ m. inr (λ z. ⊎-elim n m z)) q) p
-
-told-test : (b c : Bool) → (b ≡ c) ⊎ (b ≡ c → ⊥)
-told-test true true = inl refl
-told-test true false = inr (λ q. holds-fails refl q)
-told-test false true = inr (λ q. holds-fails q refl)
-told-test false false = inl refl
-
--- one record for task t in both states, but for where it executes
-pub record Both (a b : State) (t : ℕ) : Type 0 where
-  pub entry : Task
-  pub left : TaskIs a t entry
-  pub right : TaskIs b t entry
-
-module _ (st a b : State) where
-  -- two states with the entries that a rule gives
-  pub record Entries : Type 0 where
-    pub processor-count : a .processors ≡ b .processors
-    pub left-tasks : a .tasks ≡ st .tasks
-    pub right-tasks : b .tasks ≡ st .tasks
-    pub left-resources : a .resources ≡ st .resources
-    pub right-resources : b .resources ≡ st .resources
-    pub time : a .clock ≡ b .clock
-    pub server : (s : ℕ) → here st s ≡ true → serverAt a s ≡ serverAt b s
-    pub task : (t : ℕ) → here st t ≡ true → Both a b t
-    pub resource : (r : ℕ) → present st r ≡ true → resourceAt a r ≡ resourceAt b r
-
-  entries-by
-      : (clock : ℕ) (S T R : ℕ → Type 0) → Rest st a clock S T R → Rest st b clock S T R
-      → Told S → ((s : ℕ) → here st s ≡ true → S s → serverAt a s ≡ serverAt b s)
-      → Told T → ((t : ℕ) → here st t ≡ true → T t → Both a b t)
-      → Told R → ((r : ℕ) → present st r ≡ true → R r → resourceAt a r ≡ resourceAt b r)
-      → Entries
-  entries-by clock S T R x y tell-s s tell-t t tell-r r = record {
-    processor-count = x .processor-count ∙ sym (y .processor-count);
-    left-tasks = x .task-count;
-    right-tasks = y .task-count;
-    left-resources = x .resource-count;
-    right-resources = y .resource-count;
-    time = x .time ∙ sym (y .time);
-    server = λ i u. ⊎-elim (s i u) (λ n. x .server i u n ∙ sym (y .server i u n)) (tell-s i);
-    task = λ i u. ⊎-elim (t i u) (λ n. record { entry = taskAt st i; left = x .task i u n; right = y .task i u n }) (tell-t i);
-    resource = λ i u. ⊎-elim (r i u) (λ n. x .resource i u n ∙ sym (y .resource i u n)) (tell-r i);
-  }
-
-  module _ (e : Entries) where
     left-here : (i : ℕ) → here a i ≡ here st i
-    unfolding here
-    left-here i = ap (λ n. inUse n i) (e .left-tasks)
-
-    both-here : (i : ℕ) → here a i ≡ here b i
-    unfolding here
-    both-here i = ap (λ n. inUse n i) (e .left-tasks ∙ sym (e .right-tasks))
+    left-here = heads-here a st (left .task-count) (left .resource-count)
 
     left-present : (r : ℕ) → present a r ≡ present st r
-    unfolding present
-    left-present r = ap (λ n. inUse n r) (e .left-resources)
+    left-present = heads-present a st (left .task-count) (left .resource-count)
+
+    both-tasks : a .tasks ≡ b .tasks
+    both-tasks = left .task-count ∙ sym (right .task-count)
+
+    both-resources : a .resources ≡ b .resources
+    both-resources = left .resource-count ∙ sym (right .resource-count)
+
+    both-here : (i : ℕ) → here a i ≡ here b i
+    both-here = heads-here a b both-tasks both-resources
 
     both-present : (r : ℕ) → present a r ≡ present b r
-    unfolding present
-    both-present r = ap (λ n. inUse n r) (e .left-resources ∙ sym (e .right-resources))
+    both-present = heads-present a b both-tasks both-resources
 
-    -- so the links and the chain ends are the same
+    -- the entries are the same, but for where tasks execute
+    same-server : (s : ℕ) → here a s ≡ true → serverAt a s ≡ serverAt b s
+    same-server s h =
+        let u : here st s ≡ true = sym (left-here s) ∙ h in
+        ⊎-elim (λ v. v a b x y) (λ n. left .server s u n ∙ sym (right .server s u n)) (server s u)
+
+    same-resource : (r : ℕ) → present a r ≡ true → resourceAt a r ≡ resourceAt b r
+    same-resource r h =
+        let u : present st r ≡ true = sym (left-present r) ∙ h in
+        ⊎-elim (λ v. v a b x y) (λ n. left .resource r u n ∙ sym (right .resource r u n)) (resource r u)
+
+    same-task : (t : ℕ) → here a t ≡ true → (k : Task) × TaskIs a t k × TaskIs b t k
+    same-task t h =
+        let u : here st t ≡ true = sym (left-here t) ∙ h in
+        ⊎-elim (λ v. (v .0, v .1 a x, v .1 b y)) (λ n. (taskAt st t, left .task t u n, right .task t u n)) (task t u)
+
+    -- so the links and the chain ends are
     same-mode : (t : ℕ) → here a t ≡ true → taskAt a t .mode ≡ taskAt b t .mode
-    same-mode t u =
-        let k = e .task t (sym (left-here t) ∙ u) in
-        ap (λ (z : Task). z .mode) (k .left) ∙ sym (ap (λ (z : Task). z .mode) (k .right))
+    same-mode t u = let k = same-task t u in ap (λ (z : Task). z .mode) (k .1) ∙ sym (ap (λ (z : Task). z .mode) (k .2))
 
     same-owner : (r : ℕ) → ownerOf a r ≡ ownerOf b r
     unfolding ownerOf
     same-owner r =
         split
         (present a r)
-        (λ y. rw (y, ← (both-present r), y, e .resource r (sym (left-present r) ∙ y), both-here (ownerNo (resourceAt b r .owner))))
+        (λ h. rw (h, ← (both-present r), h, same-resource r h, both-here (ownerNo (resourceAt b r .owner))))
         (λ n. rw (n, ← (both-present r), n))
 
     same-next : (t : ℕ) → next a t ≡ next b t
@@ -110,17 +94,13 @@ module _ (st a b : State) where
     same-next t =
         split
         (here a t)
-        (λ y. rw (y, ← (both-here t), y, same-mode t y) (same-owner (awaited (taskAt b t .mode))))
+        (λ h. rw (h, ← (both-here t), h, same-mode t h) (same-owner (awaited (taskAt b t .mode))))
         (λ n. rw (n, ← (both-here t), n))
 
     -- and who runs for whom, and the best of them
     same-running : (s : ℕ) → runningAt a s ≡ runningAt b s
     unfolding runningAt
-    same-running s =
-        split
-        (here a s)
-        (λ y. rw (y, ← (both-here s), y, e .server s (sym (left-here s) ∙ y)))
-        (λ n. rw (n, ← (both-here s), n))
+    same-running s = split (here a s) (λ h. rw (h, ← (both-here s), h, same-server s h)) (λ n. rw (n, ← (both-here s), n))
 
     same-for : (t s : ℕ) → runningFor a t s ≡ runningFor b t s
     unfolding runningFor
@@ -128,237 +108,186 @@ module _ (st a b : State) where
 
     same-chosen : (t : ℕ) → chosen a t ≡ chosen b t
     unfolding budgetAt
-    same-chosen t =
-        chosen-alone a b t t (λ s l. same-for t s) (λ s l r. ap (λ (z : Server). z .budget) (e .server s (sym (left-here s) ∙ for-here a t s r)))
+    same-chosen t = chosen-alone a b t t (λ s l. same-for t s) (λ s l r. ap (λ (z : Server). z .budget) (same-server s (for-here a t s r)))
 
-    fixed : ((t : ℕ) → here st t ≡ true → executorOf a t ≡ executorOf b t) → SameInUse a b
-    fixed executors = record {
-      processors = e .processor-count;
-      tasks = e .left-tasks ∙ sym (e .right-tasks);
-      resources = e .left-resources ∙ sym (e .right-resources);
-      clock = e .time;
-      server = λ s u. e .server s (sym (left-here s) ∙ u);
+    same-followed : (t : ℕ) → Follows R t → executorOf a t ≡ executorOf b t
+    same-followed t v =
+        let same = same-for t (v .0) in
+        split
+        (runningFor a t (v .0))
+        (λ h. v .1 a x .0 h ∙ sym (v .1 b y .0 (sym same ∙ h)))
+        (λ n. v .1 a x .1 n ∙ same-chosen t ∙ sym (v .1 b y .1 (sym same ∙ n)))
+
+    same-executor : (t : ℕ) → here st t ≡ true → executorOf a t ≡ executorOf b t
+    same-executor t u =
+        ⊎-elim
+        (λ v. ⊎-elim (λ c. c a b x y) (same-followed t) v)
+        (λ n. keeps a x .1 t u n ∙ sym (keeps b y .1 t u n))
+        (executor t u)
+
+    fixed : SameInUse a b
+    fixed = record {
+      processors = left .processor-count ∙ sym (right .processor-count);
+      tasks = both-tasks;
+      resources = both-resources;
+      clock = left .time ∙ sym (right .time);
+      server = same-server;
       task = λ t u.
-          let v : here st t ≡ true = sym (left-here t) ∙ u in
-          let k = e .task t v in
-          k .left ∙ ap (λ x. withRuns (runsIn x) (k .entry)) (executors t v) ∙ sym (k .right);
-      resource = λ r p. e .resource r (sym (left-present r) ∙ p);
+          let k = same-task t u in
+          k .1 ∙ ap (λ z. withRuns (runsIn z) (k .0)) (same-executor t (sym (left-here t) ∙ u)) ∙ sym (k .2);
+      resource = same-resource;
     }
 
--- a store of one server, of one task and one resource, of nothing
-module _ (st a b : State) where
-  none : (t : ℕ) → here st t ≡ true → nothing t → Both a b t
-  none t u q = absurd q
+-- what a rule names at one number, where a test says so, where both do, where either does
+at-only : {X : Type 0} (i j : ℕ) → (j ≡ i → X) → X ⊎ (only i j → ⊥)
+at-only i j x = split (eqb j i) (λ y. inl (x (eqb-true j i y))) (λ n. inr (eqb-false j i n))
 
-  no-server : (s : ℕ) → here st s ≡ true → nothing s → serverAt a s ≡ serverAt b s
-  no-server s u q = absurd q
+at-test : {X : Type 0} (b c : Bool) → (b ≡ c → X) → X ⊎ (b ≡ c → ⊥)
+at-test true true x = inl (x refl)
+at-test true false x = inr (λ q. holds-fails refl q)
+at-test false true x = inr (λ q. holds-fails q refl)
+at-test false false x = inl (x refl)
 
-  no-resource : (r : ℕ) → present st r ≡ true → nothing r → resourceAt a r ≡ resourceAt b r
-  no-resource r u q = absurd q
+at-both : {X P Q : Type 0} → (X ⊎ (Q → ⊥)) ⊎ (P → ⊥) → X ⊎ (P × Q → ⊥)
+at-both c = ⊎-elim (λ v. ⊎-elim (λ x. inl x) (λ n. inr (λ z. n (z .1))) v) (λ n. inr (λ z. n (z .0))) c
 
-  one-server : (s : ℕ) → serverAt a s ≡ serverAt b s → (i : ℕ) → here st i ≡ true → only s i → serverAt a i ≡ serverAt b i
-  one-server s same i u q = rw q same
+at-either : {X P Q : Type 0} → X ⊎ (P → ⊥) → X ⊎ (Q → ⊥) → X ⊎ (P ⊎ Q → ⊥)
+at-either p q = ⊎-elim (λ x. inl x) (λ n. ⊎-elim (λ x. inl x) (λ m. inr (λ z. ⊎-elim n m z)) q) p
 
-  one-task : (t : ℕ) (k : Task) → TaskIs a t k → TaskIs b t k → (i : ℕ) → here st i ≡ true → only t i → Both a b i
-  one-task t k x y i u q = rw q (record { entry = k; left = x; right = y })
+-- the best of the set, whoever that is
+best : (t : ℕ) (R : State → Type 0) → ((a : State) → R a → executorOf a t ≡ chosen a t) → Follows R t
+best t R goes = (nobody, λ a z. (λ h. holds-fails h (nobody-serves a t), λ n. goes a z))
 
-  one-resource : (r : ℕ) → resourceAt a r ≡ resourceAt b r → (i : ℕ) → present st i ≡ true → only r i → resourceAt a i ≡ resourceAt b i
-  one-resource r same i u q = rw q same
-
-  -- dispatch, preempt and recharge store one server
-  server-stored
-      : (s : ℕ) → Rest st a (st .clock) (only s) nothing nothing → Rest st b (st .clock) (only s) nothing nothing → serverAt a s ≡ serverAt b s
-      → Entries st a b
-  server-stored s x y same =
-      entries-by st a b (st .clock) (only s) nothing nothing x y (told-only s) (one-server s same) told-nothing none told-nothing no-resource
-
-  pub dispatched-fixed : (s : ℕ) → Dispatched st a s → Dispatched st b s → SameInUse a b
-  dispatched-fixed s x y =
-      fixed st a b (server-stored s (x .rest) (y .rest) (x .runs ∙ sym (y .runs)))
+module _ (st : State) where
+  pub dispatched-fixed : (a b : State) (s : ℕ) → Dispatched st a s → Dispatched st b s → SameInUse a b
+  dispatched-fixed a b s =
+      fixed st (λ c. Dispatched st c s) (st .clock) (only s) nothing nothing (only (served st s)) (λ c z. (z .rest, z .executors))
+      (λ i u. at-only s i (λ q c d x y. rw q (x .runs ∙ sym (y .runs)))) (λ t u. inr (λ q. q)) (λ r u. inr (λ q. q))
       (λ t u.
-      ⊎-elim
+      at-only (served st s) t
       (λ q.
-      rw q
-      (split
+      split
       (executing st (served st s))
-      (λ h. x .spins-where-executing h .1 ∙ sym (y .spins-where-executing h .1))
-      (λ h. x .executes-where-not h .1 ∙ sym (y .executes-where-not h .1))))
-      (λ n. x .executors t u n ∙ sym (y .executors t u n))
-      (told-only (served st s) t))
+      (λ h. inl (λ c d x y. rw q (x .spins-where-executing h .1 ∙ sym (y .spins-where-executing h .1))))
+      (λ h. inl (λ c d x y. rw q (x .executes-where-not h .1 ∙ sym (y .executes-where-not h .1))))))
+      a b
 
-  pub preempted-fixed : (s : ℕ) → Preempted st a s → Preempted st b s → SameInUse a b
-  preempted-fixed s x y =
-      let e = server-stored s (x .rest) (y .rest) (x .stops ∙ sym (y .stops)) in
-      fixed st a b e
-      (λ t u.
-      ⊎-elim
-      (λ q. x .goes-on t u q ∙ same-chosen st a b e t ∙ sym (y .goes-on t u q))
-      (λ n. x .executors t u n ∙ sym (y .executors t u n))
-      (told-only s (executorOf st t)))
+  pub preempted-fixed : (a b : State) (s : ℕ) → Preempted st a s → Preempted st b s → SameInUse a b
+  preempted-fixed a b s =
+      fixed st (λ c. Preempted st c s) (st .clock) (only s) nothing nothing (λ t. executorOf st t ≡ s) (λ c z. (z .rest, z .executors))
+      (λ i u. at-only s i (λ q c d x y. rw q (x .stops ∙ sym (y .stops)))) (λ t u. inr (λ q. q)) (λ r u. inr (λ q. q))
+      (λ t u. at-only s (executorOf st t) (λ q. inr (best t (λ c. Preempted st c s) (λ c z. z .goes-on t u q))))
+      a b
 
-  pub recharged-fixed : (s : ℕ) → Recharged st a s → Recharged st b s → SameInUse a b
-  recharged-fixed s x y =
-      fixed st a b
-      (server-stored s (x .rest) (y .rest)
-      (split (suspended (taskAt st (served st s) .mode)) (λ h. x .asleep h ∙ sym (y .asleep h)) (λ h. x .awake h ∙ sym (y .awake h))))
-      (λ t u. x .executors t u (λ q. q) ∙ sym (y .executors t u (λ q. q)))
+  pub recharged-fixed : (a b : State) (s : ℕ) → Recharged st a s → Recharged st b s → SameInUse a b
+  recharged-fixed a b s =
+      fixed st (λ c. Recharged st c s) (st .clock) (only s) nothing nothing nothing (λ c z. (z .rest, z .executors))
+      (λ i u.
+      at-only s i
+      (λ q c d x y.
+      rw q (split (suspended (taskAt st (served st s) .mode)) (λ h. x .asleep h ∙ sym (y .asleep h)) (λ h. x .awake h ∙ sym (y .awake h)))))
+      (λ t u. inr (λ q. q)) (λ r u. inr (λ q. q)) (λ t u. inr (λ q. q)) a b
 
   -- elapse: every Running server, field by field
-  module _ (n : ℕ) (x : Elapsed st a n) (y : Elapsed st b n) where
-    spent-same : (s : ℕ) → here st s ≡ true → runningAt st s ≡ true → serverAt a s ≡ serverAt b s
-    spent-same s u r = λ i. record {
-      phase =
-          split (runsOut st n s)
-          (λ o. x .recharges s o ∙ sym (y .recharges s o))
-          (λ m. x .stays s u m ∙ sym (y .stays s u m))
-          i;
-      budget = (x .spends s r ∙ sym (y .spends s r)) i;
-      deadline = (x .keeps s u .0 ∙ sym (y .keeps s u .0)) i;
-      quota = (x .keeps s u .1 ∙ sym (y .keeps s u .1)) i;
-      period = (x .keeps s u .2 ∙ sym (y .keeps s u .2)) i;
-      own = (x .accounts s u .own ∙ sym (y .accounts s u .own)) i;
-      lent = (x .accounts s u .lent ∙ sym (y .accounts s u .lent)) i;
-      spin = (x .accounts s u .spin ∙ sym (y .accounts s u .spin)) i;
-    }
+  spent : (n s : ℕ) → here st s ≡ true → runningAt st s ≡ true → Same (λ c. Elapsed st c n) Server (λ c. serverAt c s)
+  spent n s u r c d x y = λ i. record {
+    phase =
+        split (runsOut st n s)
+        (λ o. x .recharges s o ∙ sym (y .recharges s o))
+        (λ m. x .stays s u m ∙ sym (y .stays s u m))
+        i;
+    budget = (x .spends s r ∙ sym (y .spends s r)) i;
+    deadline = (x .keeps s u .0 ∙ sym (y .keeps s u .0)) i;
+    quota = (x .keeps s u .1 ∙ sym (y .keeps s u .1)) i;
+    period = (x .keeps s u .2 ∙ sym (y .keeps s u .2)) i;
+    own = (x .accounts s u .own ∙ sym (y .accounts s u .own)) i;
+    lent = (x .accounts s u .lent ∙ sym (y .accounts s u .lent)) i;
+    spin = (x .accounts s u .spin ∙ sym (y .accounts s u .spin)) i;
+  }
 
-    elapsed-entries : Entries st a b
-    elapsed-entries =
-        entries-by st a b (st .clock + n) (λ s. runningAt st s ≡ true) (λ t. executing st t ≡ true) nothing (x .rest) (y .rest)
-        (λ s. told-test (runningAt st s) true)
-        spent-same
-        (λ t. told-test (executing st t) true)
-        (λ t u q. record { entry = tickedTask st n t; left = x .ticked t u; right = y .ticked t u })
-        told-nothing
-        no-resource
+  pub elapsed-fixed : (a b : State) (n : ℕ) → Elapsed st a n → Elapsed st b n → SameInUse a b
+  elapsed-fixed a b n =
+      fixed st (λ c. Elapsed st c n) (st .clock + n) (λ s. runningAt st s ≡ true) (λ t. executing st t ≡ true) nothing
+      (λ t. runsOut st n (executorOf st t) ≡ true) (λ c z. (z .rest, z .executors))
+      (λ s u. at-test (runningAt st s) true (spent n s u))
+      (λ t u. inl (tickedTask st n t, λ c z. z .ticked t u))
+      (λ r u. inr (λ q. q))
+      (λ t u. at-test (runsOut st n (executorOf st t)) true (λ o. inr (best t (λ c. Elapsed st c n) (λ c z. z .goes-on t u o))))
+      a b
 
-    pub elapsed-fixed : SameInUse a b
-    elapsed-fixed =
-        fixed st a b elapsed-entries
-        (λ t u.
-        ⊎-elim
-        (λ o. x .goes-on t u o ∙ same-chosen st a b elapsed-entries t ∙ sym (y .goes-on t u o))
-        (λ m. x .executors t u m ∙ sym (y .executors t u m))
-        (told-test (runsOut st n (executorOf st t)) true))
+  pub slept-fixed : (a b : State) (j : ℕ) → Slept st a j → Slept st b j → SameInUse a b
+  slept-fixed a b j =
+      fixed st (λ c. Slept st c j) (st .clock) (λ s. (served st s ≡ j) × (recharging (serverAt st s .phase) ≡ false)) (only j) nothing (only j)
+      (λ c z. (z .rest, z .executors))
+      (λ s u.
+      at-both
+      (at-only j (served st s)
+      (λ q. at-test (recharging (serverAt st s .phase)) false (λ h c d x y. x .set s (u, q) h ∙ sym (y .set s (u, q) h)))))
+      (λ t u. at-only j t (λ q. (withMode Suspended (taskAt st j), λ c z. rw q (z .sleeps)))) (λ r u. inr (λ q. q))
+      (λ t u. at-only j t (λ q. inl (λ c d x y. rw q (x .nowhere .1 ∙ sym (y .nowhere .1))))) a b
 
-  -- suspend and wake: the servers of a set that a test tells, and the task
-  set-stored
-      : (j : ℕ) (test : Phase → Bool) (is : Bool) (k : Task)
-      → Rest st a (st .clock) (λ s. (served st s ≡ j) × (test (serverAt st s .phase) ≡ is)) (only j) nothing
-      → Rest st b (st .clock) (λ s. (served st s ≡ j) × (test (serverAt st s .phase) ≡ is)) (only j) nothing
-      → ((s : ℕ) → Inherits st j s → test (serverAt st s .phase) ≡ is → serverAt a s ≡ serverAt b s)
-      → TaskIs a j k → TaskIs b j k
-      → Entries st a b
-  set-stored j test is k x y same l m =
-      entries-by st a b (st .clock) (λ s. (served st s ≡ j) × (test (serverAt st s .phase) ≡ is)) (only j) nothing x y
-      (λ s. told-both (told-only j (served st s)) (told-test (test (serverAt st s .phase)) is))
-      (λ s u q. same s (u, q .0) (q .1))
-      (told-only j)
-      (one-task j k l m)
-      told-nothing
-      no-resource
+  pub woken-fixed : (a b : State) (j : ℕ) → Woken st a j → Woken st b j → SameInUse a b
+  woken-fixed a b j =
+      fixed st (λ c. Woken st c j) (st .clock) (λ s. (served st s ≡ j) × (idle (serverAt st s .phase) ≡ true)) (only j) nothing nothing
+      (λ c z. (z .rest, z .executors))
+      (λ s u.
+      at-both
+      (at-only j (served st s) (λ q. at-test (idle (serverAt st s .phase)) true (λ h c d x y. x .set s (u, q) h ∙ sym (y .set s (u, q) h)))))
+      (λ t u. at-only j t (λ q. (withMode Ready (taskAt st j), λ c z. rw q (z .wakes)))) (λ r u. inr (λ q. q)) (λ t u. inr (λ q. q)) a b
 
-  pub slept-fixed : (j : ℕ) → Slept st a j → Slept st b j → SameInUse a b
-  slept-fixed j x y =
-      fixed st a b
-      (set-stored j recharging false (withMode Suspended (taskAt st j)) (x .rest) (y .rest)
-      (λ s i q. x .set s i q ∙ sym (y .set s i q)) (x .sleeps) (y .sleeps))
-      (λ t u.
-      ⊎-elim
-      (λ q. rw q (x .nowhere .1 ∙ sym (y .nowhere .1)))
-      (λ n. x .executors t u n ∙ sym (y .executors t u n))
-      (told-only j t))
+  pub granted-fixed : (a b : State) (t r : ℕ) → Granted st a t r → Granted st b t r → SameInUse a b
+  granted-fixed a b t r =
+      fixed st (λ c. Granted st c t r) (st .clock) nothing (only t) (only r) nothing (λ c z. (z .rest, z .executors)) (λ s u. inr (λ q. q))
+      (λ i u. at-only t i (λ q. (pushed r (taskAt st t), λ c z. rw q (z .stack))))
+      (λ i u. at-only r i (λ q c d x y. rw q (x .owner ∙ sym (y .owner)))) (λ i u. inr (λ q. q)) a b
 
-  pub woken-fixed : (j : ℕ) → Woken st a j → Woken st b j → SameInUse a b
-  woken-fixed j x y =
-      fixed st a b
-      (set-stored j idle true (withMode Ready (taskAt st j)) (x .rest) (y .rest)
-      (λ s i q. x .set s i q ∙ sym (y .set s i q)) (x .wakes) (y .wakes))
-      (λ t u. x .executors t u (λ q. q) ∙ sym (y .executors t u (λ q. q)))
+  pub freed-fixed : (a b : State) (j r : ℕ) → Freed st a j r → Freed st b j r → SameInUse a b
+  freed-fixed a b j r =
+      fixed st (λ c. Freed st c j r) (st .clock) nothing (only j) (only r) nothing (λ c z. (z .rest, z .executors)) (λ s u. inr (λ q. q))
+      (λ i u. at-only j i (λ q. (popped (taskAt st j), λ c z. rw q (z .stack))))
+      (λ i u. at-only r i (λ q c d x y. rw q (x .owner ∙ sym (y .owner)))) (λ i u. inr (λ q. q)) a b
 
-  -- a grant and a release store one task and one resource
-  pair-stored
-      : (t r : ℕ) (k : Task) → Rest st a (st .clock) nothing (only t) (only r) → Rest st b (st .clock) nothing (only t) (only r)
-      → TaskIs a t k → TaskIs b t k → resourceAt a r ≡ resourceAt b r
-      → Entries st a b
-  pair-stored t r k x y l m same =
-      entries-by st a b (st .clock) nothing (only t) (only r) x y told-nothing no-server (told-only t) (one-task t k l m) (told-only r) (one-resource r same)
-
-  pub granted-fixed : (t r : ℕ) → Granted st a t r → Granted st b t r → SameInUse a b
-  granted-fixed t r x y =
-      fixed st a b (pair-stored t r (pushed r (taskAt st t)) (x .rest) (y .rest) (x .stack) (y .stack) (x .owner ∙ sym (y .owner)))
-      (λ i u. x .executors i u (λ q. q) ∙ sym (y .executors i u (λ q. q)))
-
-  pub freed-fixed : (j r : ℕ) → Freed st a j r → Freed st b j r → SameInUse a b
-  freed-fixed j r x y =
-      fixed st a b (pair-stored j r (popped (taskAt st j)) (x .rest) (y .rest) (x .stack) (y .stack) (x .owner ∙ sym (y .owner)))
-      (λ i u. x .executors i u (λ q. q) ∙ sym (y .executors i u (λ q. q)))
-
-  pub behind-fixed : (t r j : ℕ) → LockedBehind st a t r j → LockedBehind st b t r j → SameInUse a b
-  behind-fixed t r j x y =
-      fixed st a b
-      (entries-by st a b (st .clock)
+  pub behind-fixed : (a b : State) (t r j : ℕ) → LockedBehind st a t r j → LockedBehind st b t r j → SameInUse a b
+  behind-fixed a b t r j =
+      fixed st (λ c. LockedBehind st c t r j) (st .clock)
       (λ s. (suspended (taskAt st j .mode) ≡ true) × (served st s ≡ t) × (recharging (serverAt st s .phase) ≡ false))
-      (only t) (only r) (x .rest) (y .rest)
-      (λ s.
-      told-three (told-test (suspended (taskAt st j .mode)) true) (told-only t (served st s)) (told-test (recharging (serverAt st s .phase)) false))
-      (λ s u q. x .rests (q .0) s (u, q .1) (q .2) ∙ sym (y .rests (q .0) s (u, q .1) (q .2)))
-      (told-only t)
-      (one-task t (withMode (Waiting r) (taskAt st t)) (x .waits) (y .waits))
-      (told-only r)
-      (one-resource r (x .queue ∙ sym (y .queue))))
+      (only t) (only r) (λ i. (i ≡ t) ⊎ ((i ≡ j) × (suspended (taskAt st j .mode) ≡ false)))
+      (λ c z. (z .rest, z .executors))
+      (λ s u.
+      ⊎-elim (λ v. inl v) (λ n. inr (λ z. n (z .0, (z .1, z .2))))
+      (at-both
+      (at-test (suspended (taskAt st j .mode)) true
+      (λ e.
+      at-both
+      (at-only t (served st s)
+      (λ q. at-test (recharging (serverAt st s .phase)) false (λ h c d x y. x .rests e s (u, q) h ∙ sym (y .rests e s (u, q) h))))))))
+      (λ i u. at-only t i (λ q. (withMode (Waiting r) (taskAt st t), λ c z. rw q (z .waits))))
+      (λ i u. at-only r i (λ q c d x y. rw q (x .queue ∙ sym (y .queue))))
       (λ i u.
-      ⊎-elim
-      (λ c.
-      ⊎-elim
-      (λ q. rw q (x .nowhere .1 ∙ sym (y .nowhere .1)))
+      at-either
+      (at-only t i (λ q. inl (λ c d x y. rw q (x .nowhere .1 ∙ sym (y .nowhere .1)))))
+      (at-both
+      (at-only j i
       (λ q.
-      rw (q .0)
-      (split
+      at-test (suspended (taskAt st j .mode)) false
+      (λ e.
+      split
       (executing st j)
-      (λ h. x .spins-where-executing h .0 ∙ sym (y .spins-where-executing h .0))
-      (λ h. x .executes-where-not (q .1) h ∙ sym (y .executes-where-not (q .1) h))))
-      c)
-      (λ n. x .executors i u n ∙ sym (y .executors i u n))
-      (told-either (told-only t i) (told-both (told-only j i) (told-test (suspended (taskAt st j .mode)) false))))
+      (λ h. inl (λ c d x y. rw q (x .spins-where-executing h .0 ∙ sym (y .spins-where-executing h .0))))
+      (λ h. inl (λ c d x y. rw q (x .executes-where-not e h ∙ sym (y .executes-where-not e h)))))))))
+      a b
 
-  module _ (j r i : ℕ) (x : Passed st a j r i) (y : Passed st b j r i) where
-    passed-task : (t : ℕ) → here st t ≡ true → (t ≡ j) ⊎ (t ≡ i) → Both a b t
-    passed-task t u c =
-        ⊎-elim
-        (λ q. one-task j (popped (taskAt st j)) (x .releaser-stack) (y .releaser-stack) t u q)
-        (λ q. one-task i (pushed r (withMode Ready (taskAt st i))) (x .heir-stack) (y .heir-stack) t u q)
-        c
-
-    passed-entries : Entries st a b
-    passed-entries =
-        entries-by st a b (st .clock) nothing (λ t. (t ≡ j) ⊎ (t ≡ i)) (only r) (x .rest) (y .rest) told-nothing no-server
-        (λ t. told-either (told-only j t) (told-only i t))
-        passed-task
-        (told-only r)
-        (one-resource r (x .owner ∙ sym (y .owner)))
-
-    -- the releaser's executor, where it serves the task now, and else the best of its set
-    follows
-        : (t : ℕ)
-        → ((c : State) → Passed st c j r i → runningFor c t (executorOf st j) ≡ true → executorOf c t ≡ executorOf st j)
-        → ((c : State) → Passed st c j r i → runningFor c t (executorOf st j) ≡ false → executorOf c t ≡ chosen c t)
-        → executorOf a t ≡ executorOf b t
-    follows t goes stays =
-        let same = same-for st a b passed-entries t (executorOf st j) in
-        split
-        (runningFor a t (executorOf st j))
-        (λ h. goes a x h ∙ sym (goes b y (sym same ∙ h)))
-        (λ n. stays a x n ∙ same-chosen st a b passed-entries t ∙ sym (stays b y (sym same ∙ n)))
-
-    pub passed-fixed : SameInUse a b
-    passed-fixed =
-        fixed st a b passed-entries
-        (λ t u.
-        ⊎-elim
-        (λ c.
-        ⊎-elim
-        (λ q. rw q (follows j (λ d z. z .stays-with-releaser) (λ d z. z .releaser-goes-on)))
-        (λ q. rw q (follows i (λ d z. z .goes-with-heir) (λ d z. z .heir-goes-on)))
-        c)
-        (λ n. x .executors t u n ∙ sym (y .executors t u n))
-        (told-either (told-only j t) (told-only i t)))
+  pub passed-fixed : (a b : State) (j r i : ℕ) → Passed st a j r i → Passed st b j r i → SameInUse a b
+  passed-fixed a b j r i =
+      fixed st (λ c. Passed st c j r i) (st .clock) nothing (λ t. (t ≡ j) ⊎ (t ≡ i)) (only r) (λ t. (t ≡ j) ⊎ (t ≡ i))
+      (λ c z. (z .rest, z .executors)) (λ s u. inr (λ q. q))
+      (λ t u.
+      at-either
+      (at-only j t (λ q. (popped (taskAt st j), λ c z. rw q (z .releaser-stack))))
+      (at-only i t (λ q. (pushed r (withMode Ready (taskAt st i)), λ c z. rw q (z .heir-stack)))))
+      (λ q u. at-only r q (λ e c d x y. rw e (x .owner ∙ sym (y .owner))))
+      (λ t u.
+      at-either
+      (at-only j t (λ q. inr (executorOf st j, λ c z. rw q (z .stays-with-releaser, z .releaser-goes-on))))
+      (at-only i t (λ q. inr (executorOf st j, λ c z. rw q (z .goes-with-heir, z .heir-goes-on)))))
+      a b

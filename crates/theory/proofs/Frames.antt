@@ -11,7 +11,7 @@ use Rattle.theory.proofs.Declared.{TaskNo, Phase, Idle, Active, Running
 use Rattle.model.specs.State.{places, noServer, noTask, noResource, serverAt, taskAt, resourceAt, inUse, here, present, idle, active, running, suspended, owned, served}
 use Rattle.model.specs.Shape.{Shaped}
 use Rattle.model.specs.RuleH.{withRuns, settled}
-use Rattle.model.specs.Events.{withServer, withTask, withPhase, refilled, withMode, serverBy, eachServer, wakes, wokenServer, woken, rests, restedServer, rested, slept, phased, spentServer, tickedTask, taskBy, elapsed, rechargedPhase, recharged, pushed, popped, withOwner, enqueued, dequeued, firstWaiter, granted, joined, restedEnd, locked, freed, passed, unlocked, changed, acting}
+use Rattle.model.specs.Events.{withServer, withTask, withPhase, refilled, withMode, serverBy, eachServer, wakes, wokenServer, woken, rests, restedServer, rested, slept, phased, spentServer, tickedTask, taskBy, elapsed, rechargedPhase, recharged, pushed, popped, withOwner, enqueued, dequeued, firstWaiter, granted, joined, restedEnd, locked, freed, passed, unlocked, changed, acting, withServers}
 use Rattle.model.specs.Step.{stateAfter}
 use Rattle.model.proofs.RuleH.{settled-field}
 use Rattle.model.proofs.Boxes.{dequeued-long}
@@ -38,13 +38,14 @@ Kept a b =
     (a .processors ≡ b .processors) × (a .tasks ≡ b .tasks) × (a .resources ≡ b .resources) ×
     (length (a .server) ≡ length (b .server)) × (length (a .task) ≡ length (b .task)) × (length (a .resource) ≡ length (b .resource))
 
-rested-kept : (st : State) (t : ℕ) → Kept (restedEnd st t) st
+-- what comes to rest behind an end is servers
+pub rests-alone : (u : State) (t : ℕ) → restedEnd u t ≡ withServers (restedEnd u t .server) u
 unfolding restedEnd rested eachServer
-rested-kept st t =
-    split
-    (suspended (taskAt st (served st t) .mode))
-    (λ y. rw y (refl, refl, refl, length-setTo places _ (st .server), refl, refl))
-    (λ n. rw n (refl, refl, refl, refl, refl, refl))
+rests-alone u t = split (suspended (taskAt u (served u t) .mode)) (λ y. rw y) (λ n. rw n)
+
+rested-long : (u : State) (t : ℕ) → length (restedEnd u t .server) ≡ length (u .server)
+unfolding restedEnd rested eachServer
+rested-long u t = split (suspended (taskAt u (served u t) .mode)) (λ y. rw y (length-setTo places _ (u .server))) (λ n. rw n)
 
 changed-kept : (st : State) (e : Event) → Kept (changed st e) st
 unfolding woken slept rested phased elapsed recharged eachServer locked unlocked granted joined freed passed
@@ -58,8 +59,8 @@ changed-kept st (Lock t r) =
     split
     (owned (resourceAt st r .owner))
     (λ y.
-    let k = rested-kept (joined st (t .0) r) (t .0) in
-    rw y (k .0, k .1, k .2, k .3, k .4 ∙ length-set (st .task) _ _, k .5 ∙ length-set (st .resource) _ _))
+    rw (y, rests-alone (joined st (t .0) r) (t .0))
+    (refl, refl, refl, rested-long (joined st (t .0) r) (t .0), length-set (st .task) _ _, length-set (st .resource) _ _))
     (λ n. rw n (refl, refl, refl, refl, length-set (st .task) _ _, length-set (st .resource) _ _))
 changed-kept st (Unlock t r) =
     split
@@ -71,10 +72,6 @@ pub heads-kept : (st : State) (e : Event) → Heads (changed st e) st
 heads-kept st e = let k = changed-kept st e in (k .0, k .1, k .2)
 
 -- the clock: only an elapse moves it
-rested-clock : (st : State) (t : ℕ) → restedEnd st t .clock ≡ st .clock
-unfolding restedEnd rested eachServer
-rested-clock st t = split (suspended (taskAt st (served st t) .mode)) (λ y. rw y) (λ n. rw n)
-
 pub clock-kept : (st : State) (e : Event) → ((n : ℕ) → e ≡ Elapse n → ⊥) → changed st e .clock ≡ st .clock
 unfolding woken slept rested eachServer phased recharged locked unlocked granted joined freed passed
 clock-kept st (Wake t) other = refl
@@ -83,7 +80,7 @@ clock-kept st (Dispatch s) other = refl
 clock-kept st (Preempt s) other = refl
 clock-kept st (Elapse n) other = absurd (other n refl)
 clock-kept st (Recharge s) other = refl
-clock-kept st (Lock t r) other = split (owned (resourceAt st r .owner)) (λ y. rw y (rested-clock (joined st (t .0) r) (t .0))) (λ n. rw n)
+clock-kept st (Lock t r) other = split (owned (resourceAt st r .owner)) (λ y. rw (y, rests-alone (joined st (t .0) r) (t .0))) (λ n. rw n)
 clock-kept st (Unlock t r) other = split (eqb (resourceAt st r .waiting) 0) (λ y. rw y) (λ n. rw n)
 
 -- which servers an event reaches
@@ -210,12 +207,6 @@ module _ (st : State) where
   keep-after : (e : Event) (t : ℕ) (x : Task) → TaskAfter st e t x → (i : ℕ) → TaskAfter st e i (taskAt (withTask t x st) i)
   keep-after e t x new i = ⊎-elim (λ c. rw (c .1, c .0) new) (λ c. inl c) (store-cases (st .task) t x noTask i)
 
-  joined-after : (t : TaskNo) (r i : ℕ) → TaskAfter st (Lock t r) i (taskAt (restedEnd (joined st (t .0) r) (t .0)) i)
-  unfolding restedEnd rested eachServer joined
-  joined-after t r i =
-      let new = keep-after (Lock t r) (t .0) (withMode (Waiting r) (taskAt st (t .0))) (inr (waits t r refl refl refl)) i in
-      split (suspended (taskAt (joined st (t .0) r) (served (joined st (t .0) r) (t .0)) .mode)) (λ y. rw y new) (λ n. rw n new)
-
   passed-after
       : (t : TaskNo) (r i : ℕ) → 0 < resourceAt st r .waiting → TaskAfter st (Unlock t r) i (taskAt (passed st (t .0) r (firstWaiter (resourceAt st r))) i)
   unfolding passed
@@ -235,7 +226,7 @@ module _ (st : State) where
       (each-cases places (taskBy st (tickedTask st n)) (st .task) noTask i)
 
   pub task-after : (e : Event) (i : ℕ) → TaskAfter st e i (taskAt (changed st e) i)
-  unfolding woken slept rested eachServer phased recharged locked unlocked granted freed
+  unfolding woken slept rested eachServer phased recharged locked unlocked granted joined freed
   task-after (Wake t) i = keep-after (Wake t) (t .0) _ (inr (wakes-up t refl refl refl)) i
   task-after (Suspend t) i = keep-after (Suspend t) (t .0) _ (inr (sleeps t refl refl refl)) i
   task-after (Dispatch s) i = inl refl
@@ -245,7 +236,7 @@ module _ (st : State) where
   task-after (Lock t r) i =
       split
       (owned (resourceAt st r .owner))
-      (λ y. rw y (joined-after t r i))
+      (λ y. rw (y, rests-alone (joined st (t .0) r) (t .0)) (keep-after (Lock t r) (t .0) _ (inr (waits t r refl refl refl)) i))
       (λ n. rw n (keep-after (Lock t r) (t .0) _ (inr (takes t r refl refl refl)) i))
   task-after (Unlock t r) i =
       split
@@ -257,14 +248,8 @@ module _ (st : State) where
   own-after : (e : Event) (r : ℕ) (x : Resource) → ResourceAfter st e r x → (q : ℕ) → ResourceAfter st e q (getD (set (st .resource) r x) q noResource)
   own-after e r x new q = ⊎-elim (λ c. rw (c .1, c .0) new) (λ c. inl c) (store-cases (st .resource) r x noResource q)
 
-  queued-after : (t : TaskNo) (r q : ℕ) → ResourceAfter st (Lock t r) q (resourceAt (restedEnd (joined st (t .0) r) (t .0)) q)
-  unfolding restedEnd rested eachServer joined
-  queued-after t r q =
-      let new = own-after (Lock t r) r (enqueued (t .0) (resourceAt st r)) (inr (queued t refl refl)) q in
-      split (suspended (taskAt (joined st (t .0) r) (served (joined st (t .0) r) (t .0)) .mode)) (λ y. rw y new) (λ n. rw n new)
-
   pub resource-after : (e : Event) (q : ℕ) → ResourceAfter st e q (resourceAt (changed st e) q)
-  unfolding woken slept rested eachServer phased elapsed recharged locked unlocked granted freed passed
+  unfolding woken slept rested eachServer phased elapsed recharged locked unlocked granted joined freed passed
   resource-after (Wake t) q = inl refl
   resource-after (Suspend t) q = inl refl
   resource-after (Dispatch s) q = inl refl
@@ -274,7 +259,7 @@ module _ (st : State) where
   resource-after (Lock t r) q =
       split
       (owned (resourceAt st r .owner))
-      (λ y. rw y (queued-after t r q))
+      (λ y. rw (y, rests-alone (joined st (t .0) r) (t .0)) (own-after (Lock t r) r _ (inr (queued t refl refl)) q))
       (λ n. rw n (own-after (Lock t r) r _ (inr (owned-by t refl refl)) q))
   resource-after (Unlock t r) q =
       split

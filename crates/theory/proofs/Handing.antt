@@ -1,30 +1,26 @@
 -- Unlock with a queue: what reached the releaser through the resource goes to the heir, the rest stays, and who executes. Assumes nothing.
-use Rattle.theory.proofs.Kit.{_≡_, refl, sym, ap, _∙_, Bool, true, false, _&&_, _⊎_, inl, inr, ⊎-elim, ℕ, zero, suc, _<_, _≤_, arith, ltb, eqb, getD, set, length-set, eqb-true, eq-eqb, ne-eqb}
+use Rattle.theory.proofs.Kit.{_≡_, refl, sym, ap, _∙_, Bool, true, false, _&&_, _⊎_, inl, inr, ⊎-elim, ℕ, zero, suc, _<_, arith, ltb, eqb, getD, eqb-true, eq-eqb, ne-eqb}
 use borrow.Author.Tests.{le-ltb}
 use Rattle.laws.specs.Tests.{if_then_else_, bit}
 use Rattle.laws.specs.Loops.{countTo}
 use Rattle.laws.specs.Links.{Leads}
 use Rattle.laws.proofs.Cases.{split, holds-fails, unheld-fails, and-left, and-right, and-both}
 use Rattle.laws.proofs.Count.{count-zero}
-use Rattle.laws.proofs.Lists.{getD-set}
-use Rattle.theory.proofs.Declared.{Mode, Suspended, Ready, Waiting, By, Server, Task, Resource, State, Event, Unlock}
-use Rattle.model.specs.State.{places, nobody, noTask, serverAt, taskAt, resourceAt, here, present, running, awaited, ownerNo, ownerOf, next, served, runningFor, executorOf, executing}
+use Rattle.theory.proofs.Declared.{Mode, Suspended, Ready, Waiting, By, Server, State, Event, Unlock}
+use Rattle.model.specs.State.{places, nobody, serverAt, taskAt, resourceAt, here, present, running, awaited, ownerNo, ownerOf, next, served, runningFor, executorOf, executing}
 use Rattle.model.specs.Sound.{heldAt}
 use Rattle.model.specs.Events.{withMode, withOwner, pushed, popped, dequeued, firstWaiter, passed, unlocked, changed, acting}
 use Rattle.model.specs.Step.{topOf, stateAfter, stepped}
 use Rattle.model.proofs.Chain.{here-below, present-below, next-here, linked-here, served-walk, end-itself, same-served}
 use Rattle.model.proofs.Sound.{Loose}
 use Rattle.model.proofs.RuleH.{settled-next}
-use Rattle.model.proofs.Room.{stack-held, first-here, first-waits}
 use Rattle.theory.specs.Rules.{Proper, Through, ExecutorsStay, only, nothing, Passed, HandedOver}
-use Rattle.theory.proofs.Calm.{Calm, loose-calm}
-use Rattle.theory.proofs.Executing.{runs-ready, runs-ended}
+use Rattle.theory.proofs.Executing.{runs-ended, Way}
 use Rattle.theory.proofs.Passing as T
-use Rattle.theory.proofs.Soundness.{heir-room}
-use Rattle.theory.proofs.Steps.{Way, properly, executor-none, nobody-serves, after-server, after-resource, task-is, rest-by, same-for, executor-kept, executor-taken, executor-chosen, executor-same}
-use Rattle.theory.proofs.Readings.{for-served}
+use Rattle.theory.proofs.Steps.{properly, executor-none, nobody-serves, after-server, after-resource, task-is, rest-by, same-for, by-rule-h, executor-chosen, executor-same}
+use Rattle.theory.proofs.Readings.{other-for}
 use Rattle.theory.proofs.Lambda.{served-leads}
-use Rattle.theory.proofs.Through.{leads-last, through-end, apart-end}
+use Rattle.laws.proofs.Ends.{leads-last, through-end, apart-end}
 
 -- a task that awaits a resource waits for it
 awaits-is : (m : Mode) (r : ℕ) → r < places → awaited m ≡ r → m ≡ Waiting r
@@ -83,38 +79,11 @@ module _ (st : State) (t r : ℕ) (some : 0 < resourceAt st r .waiting) (way : W
   abbrev after : State
   after = stateAfter st e
 
-  abbrev c : Calm st
-  c = loose-calm st (way .facts)
-
-  used : here st t ≡ true
+  abbrev used : here st t ≡ true
   used = way .ground .0
 
-  known : present st r ≡ true
+  abbrev known : present st r ≡ true
   known = way .ground .1
-
-  owns : ownerNo (resourceAt st r .owner) ≡ t
-  owns = way .ground .3
-
-  top : topOf st t ≡ r
-  top = way .ground .4
-
-  ready : taskAt st t .mode ≡ Ready
-  ready = runs-ready st (way .facts) t (way .ground .2)
-
-  ended : places ≤ next st t
-  ended = runs-ended st (way .facts) t (way .ground .2)
-
-  deep : 0 < taskAt st t .depth
-  deep = stack-held st (way .facts) t r used known owns
-
-  heir-used : here st h ≡ true
-  heir-used = first-here st (way .facts) r known some
-
-  heir-waits : awaited (taskAt st h .mode) ≡ r
-  heir-waits = first-waits st (way .facts) r known some
-
-  room : taskAt st h .depth < places
-  room = heir-room st (way .shaped) (way .facts) (record { 0 = t }) r (way .ground) some
 
   abbrev wants : ℕ → Bool
   wants y = here st y && eqb (awaited (taskAt st y .mode)) r
@@ -136,24 +105,13 @@ module _ (st : State) (t r : ℕ) (some : 0 < resourceAt st r .waiting) (way : W
   after-mid : (y : ℕ) → served after y ≡ served mid y
   after-mid = same-served after mid after-links
 
-  heir-wants : wants h ≡ true
-  heir-wants = and-both (here st h) _ heir-used (eq-eqb _ r heir-waits)
-
-  heir-ends : places ≤ next mid h
-  heir-ends = T.heir-ends st (way .shaped) c t r h used known ready ended owns top deep some refl heir-used heir-waits room
-
-  link-moved : (y : ℕ) → (y ≡ h → ⊥) → wants y ≡ true → next mid y ≡ h
-  link-moved = T.link-moved st (way .shaped) c t r h used known ready ended owns top deep some refl heir-used heir-waits room
-
-  link-others : (y : ℕ) → (y ≡ h → ⊥) → wants y ≡ false → next mid y ≡ next st y
-  link-others = T.link-others st (way .shaped) c t r h used known ready ended owns top deep some refl heir-used heir-waits room
-
   -- "what reached the releaser through this resource goes to the heir,
   through-heir : (k s w : ℕ) → here st s ≡ true → Leads places (next st) k s w → taskAt st w .mode ≡ Waiting r → served after s ≡ h
   through-heir k s w u l m =
       after-mid s
       ∙ served-walk mid s
-      ∙ through-end places (next st) (next mid) h wants heir-wants heir-ends (here-below st h heir-used) link-moved link-others
+      ∙ through-end places (next st) (next mid) h wants (T.heir-wants st t r some way) (T.heir-ends st t r some way)
+      (here-below st h (T.heir-used st t r some way)) (T.link-moved st t r some way) (T.link-others st t r some way)
       k s w (here-below st s u) l (wants-by w (leads-here st k s w u l) m)
 
   -- the rest stays"
@@ -161,57 +119,30 @@ module _ (st : State) (t r : ℕ) (some : 0 < resourceAt st r .waiting) (way : W
   apart-stays s f =
       after-mid s
       ∙ served-walk mid s
-      ∙ apart-end places (next st) (next mid) h wants heir-wants heir-ends (here-below st h heir-used) link-moved link-others
+      ∙ apart-end places (next st) (next mid) h wants (T.heir-wants st t r some way) (T.heir-ends st t r some way)
+      (here-below st h (T.heir-used st t r some way)) (T.link-moved st t r some way) (T.link-others st t r some way)
       places s (λ k w l v. f k w l (by-wants w v))
       ∙ sym (served-walk st s)
 
   -- the entries that are stored
-  abbrev heir : Task
-  heir = pushed r (withMode Ready (taskAt st h))
+  task-now
+      : (y : ℕ)
+      → taskAt (changed st e) y ≡ (if eqb y h then pushed r (withMode Ready (taskAt st h)) else if eqb y t then popped (taskAt st t) else taskAt st y)
+  task-now y = ap (λ z. taskAt z y) changed-is ∙ T.pass-task st t r some way y
 
-  abbrev giver : Task
-  giver = popped (taskAt st t)
-
-  abbrev line : Resource
-  line = withOwner (By (record { 0 = h })) (dequeued (resourceAt st r))
-
-  apart : t ≡ h → ⊥
-  apart q = omega (arith, ap awaited ready, ap (λ y. awaited (taskAt st y .mode)) q, heir-waits, present-below st r known)
-
-  task-now : (y : ℕ) → taskAt (changed st e) y ≡ (if eqb y h then heir else if eqb y t then giver else taskAt st y)
-  unfolding passed
-  task-now y =
-      ap (λ z. taskAt z y) changed-is
-      ∙ getD-set (set (st .task) t giver) h y heir noTask (omega (arith, length-set (st .task) t giver, way .shaped .tasks, here-below st h heir-used))
-      ∙ ap (λ z. if eqb y h then heir else z) (getD-set (st .task) t y giver noTask (omega (arith, way .shaped .tasks, here-below st t used)))
-
-  resource-now : (q : ℕ) → resourceAt (changed st e) q ≡ (if eqb q r then line else resourceAt st q)
-  resource-now q =
-      ap (λ z. resourceAt z q) changed-is
-      ∙ T.pass-resource st (way .shaped) c t r h used known ready ended owns top deep some refl heir-used heir-waits room q
+  resource-now : (q : ℕ) → resourceAt (changed st e) q ≡ (if eqb q r then withOwner (By (record { 0 = h })) (dequeued (resourceAt st r)) else resourceAt st q)
+  resource-now q = ap (λ z. resourceAt z q) changed-is ∙ T.pass-resource st t r some way q
 
   server-now : (s : ℕ) → serverAt (changed st e) s ≡ serverAt st s
   unfolding passed
   server-now s = ap (λ z. serverAt z s) changed-is
 
-  clock-now : changed st e .clock ≡ st .clock
-  unfolding passed
-  clock-now = ap (λ z. z .clock) changed-is
-
   -- the heir did not execute: the releaser's server takes it where it serves it now
   heir-idle : executing st h ≡ false
-  heir-idle =
-      unheld-fails _
-      (λ y.
-      omega (
-        arith,
-        runs-ended st (way .facts) h y,
-        T.heir-next st (way .shaped) c t r h used known ready ended owns top deep some refl heir-used heir-waits room,
-        here-below st t used,
-      ))
+  heir-idle = unheld-fails _ (λ y. omega (arith, runs-ended st (way .facts) h y, T.heir-next st t r some way, here-below st t used))
 
   heir-free : runningFor after h (executorOf st h) ≡ false
-  heir-free = rw (executor-none st h heir-used heir-idle) (nobody-serves after h)
+  heir-free = rw (executor-none st h (T.heir-used st t r some way) heir-idle) (nobody-serves after h)
 
   -- servers of any third task see no difference
   others : ExecutorsStay st after (λ y. (y ≡ t) ⊎ (y ≡ h))
@@ -220,26 +151,25 @@ module _ (st : State) (t r : ℕ) (some : 0 < resourceAt st r .waiting) (way : W
       (λ s v.
       ⊎-elim
       (λ q.
-      unheld-fails _ (λ f. n (inr (sym (for-served after y s f) ∙ after-mid s ∙ q .1)))
-      ∙ sym (unheld-fails _ (λ f. n (inl (sym (for-served st y s f) ∙ q .0)))))
+      other-for after y s (λ p. n (inr (sym p ∙ after-mid s ∙ q .1))) ∙ sym (other-for st y s (λ p. n (inl (sym p ∙ q .0)))))
       (λ q. same-for st e way y s (after-mid s ∙ q) (ap (λ (x : Server). running (x .phase)) (after-server st e s ∙ server-now s)))
-      (T.ends-after-pass st (way .shaped) c t r h used known ready ended owns top deep some refl heir-used heir-waits room s v))
+      (T.ends-after-pass st t r some way s v))
 
   -- the releaser waits for nobody, and serves itself
   releaser-end : served after t ≡ t
   unfolding Leads
-  releaser-end = apart-stays t free ∙ end-itself st t ended
+  releaser-end = apart-stays t free ∙ end-itself st t (T.ended st t r some way)
     where
       free : (k w : ℕ) → Leads places (next st) k t w → taskAt st w .mode ≡ Waiting r → ⊥
       free zero w l m =
-          let z : nobody ≡ r = sym (ap awaited ready) ∙ ap (λ y. awaited (taskAt st y .mode)) l ∙ ap awaited m in
+          let z : nobody ≡ r = sym (ap awaited (T.ready st t r some way)) ∙ ap (λ y. awaited (taskAt st y .mode)) l ∙ ap awaited m in
           omega (arith, present-below st r known)
-      free (suc k) w l m = omega (arith, ended, l .0)
+      free (suc k) w l m = omega (arith, T.ended st t r some way, l .0)
 
   others-stay : (s : ℕ) → here st s ≡ true → (served st s ≡ t → ⊥) → served after s ≡ served st s
   others-stay s u n =
       ⊎-elim (λ q. absurd (n (q .0))) (λ q. after-mid s ∙ q)
-      (T.ends-after-pass st (way .shaped) c t r h used known ready ended owns top deep some refl heir-used heir-waits room s u)
+      (T.ends-after-pass st t r some way s u)
 
   -- where it is the releaser's only resource, all that ended at the releaser came through it
   only-through : taskAt st t .depth ≡ 1 → (s : ℕ) → here st s ≡ true → served st s ≡ t → (s ≡ t → ⊥) → served after s ≡ h
@@ -249,7 +179,7 @@ module _ (st : State) (t r : ℕ) (some : 0 < resourceAt st r .waiting) (way : W
       (λ z.
       let a = leads-last places (next st) (z .0) s (served st s) (z .1) in
       let o = linked-owner st (a .0) t (here-below st t used) (a .2 ∙ q) in
-      let same : awaited (taskAt st (a .0) .mode) ≡ r = sym (only-held st (way .facts) t _ used (o .0) (o .1) one) ∙ top in
+      let same : awaited (taskAt st (a .0) .mode) ≡ r = sym (only-held st (way .facts) t _ used (o .0) (o .1) one) ∙ way .ground .4 in
       through-heir (z .0) s (a .0) u (a .1) (awaits-is (taskAt st (a .0) .mode) r (present-below st r known) same))
       (served-leads st s)
 
@@ -271,21 +201,22 @@ module _ (st : State) (t r : ℕ) (some : 0 < resourceAt st r .waiting) (way : W
       leads-through (suc k) v l m = record { waiter = v; here-waits = m; way = inr (record { links = k; way = l }) }
 
   passes : Passed st after t r h
+  unfolding passed
   passes = record {
     rest =
-        rest-by st e way (st .clock) nothing (λ y. (y ≡ t) ⊎ (y ≡ h)) (only r) clock-now
+        rest-by st e way (st .clock) nothing (λ y. (y ≡ t) ⊎ (y ≡ h)) (only r) (ap (λ z. z .clock) changed-is)
         (λ s u n. server-now s)
         (λ y u n. task-now y ∙ rw (ne-eqb y h (λ q. n (inr q)), ne-eqb y t (λ q. n (inl q))))
         (λ q u n. resource-now q ∙ rw (ne-eqb q r n));
     owner = after-resource st e r ∙ resource-now r ∙ rw (eq-eqb r r refl);
-    heir-stack = task-is st e way h heir-used heir (task-now h ∙ rw (eq-eqb h h refl));
-    releaser-stack = task-is st e way t used giver (task-now t ∙ rw (ne-eqb t h apart, eq-eqb t t refl));
+    heir-stack = task-is st e way h (T.heir-used st t r some way) (pushed r (withMode Ready (taskAt st h))) (task-now h ∙ rw (eq-eqb h h refl));
+    releaser-stack = task-is st e way t used (popped (taskAt st t)) (task-now t ∙ rw (ne-eqb t h (λ q. T.apart st t r some way (sym q)), eq-eqb t t refl));
     through = goes-through;
     apart = goes-apart;
     executors = others;
-    goes-with-heir = executor-taken st e way h heir-used heir-free;
-    heir-goes-on = executor-chosen st e way h heir-used heir-free;
-    stays-with-releaser = executor-kept st e way t used;
+    goes-with-heir = by-rule-h st e way h (T.heir-used st t r some way) .takes heir-free;
+    heir-goes-on = executor-chosen st e way h (T.heir-used st t r some way) heir-free;
+    stays-with-releaser = by-rule-h st e way t used .keeps;
     releaser-goes-on = λ f. executor-chosen st e way t used f f;
   }
 

@@ -28,7 +28,6 @@ pub mod Elapsing
 pub mod Sleeping
 pub mod Freeing
 pub mod Joining
-pub mod Through
 pub mod Handing
 pub mod Unread
 pub mod InUse

@@ -20,7 +20,7 @@ use Rattle.model.proofs.Grounds.{Grounds}
 use Rattle.model.proofs.Room.{first-here, first-waits}
 use Rattle.model.proofs.RuleH.{serving-below}
 use Rattle.model.proofs.Sound.{Loose}
-use Rattle.theory.proofs.Frames.{heads-here, heads-present, heads-kept, clock-kept, changed-shaped, ServerReached, TaskMade, wakes-up, sleeps, waits, takes, inherits, gives, ticks, ResourceMade, queued, owned-by, given-up, passed-on, server-after, task-after, resource-after}
+use Rattle.theory.proofs.Frames.{heads-here, heads-present, heads-kept, clock-kept, changed-shaped, ServerReached, TaskMade, wakes-up, sleeps, waits, takes, inherits, gives, ticks, ResourceMade, queued, owned-by, given-up, passed-on, server-after, task-after, resource-after, rests-alone}
 use Rattle.theory.proofs.Readings.{for-running, for-served, running-here}
 use Rattle.theory.proofs.Agreement.{Labels, Agree, Homed, Good, good-home, good-self, here-same, running-same, executing-same, executes-same, executor-of-same, served-same, served-home, served-in, serves-same, for-same, chosen-same}
 
@@ -93,14 +93,12 @@ module _ (l : Labels) (st : State) (good : Good l st) where
         }
 
   -- servers at rest are no waiters and own nothing
-  unrested-home : (u : State) (t : ℕ) → Homed l (restedEnd u t) → Homed l u
-  unfolding restedEnd rested eachServer here present
-  unrested-home u t h =
-      split (suspended (taskAt u (served u t) .mode)) (λ y. let k = rw y at h in record { waits = k .waits; owns = k .owns }) (λ n. rw n at h)
-
   joined-home : (t : TaskNo) (r : ℕ) → Grounds st (Lock t r) → owned (resourceAt st r .owner) ≡ true → Homed l (joined st (t .0) r)
-  unfolding locked
-  joined-home t r g y = let h = changed-home (Lock t r) g in unrested-home (joined st (t .0) r) (t .0) (rw y at h)
+  unfolding locked here present
+  joined-home t r g y =
+      let h = changed-home (Lock t r) g in
+      let k = rw (y, rests-alone (joined st (t .0) r) (t .0)) at h in
+      record { waits = k .waits; owns = k .owns }
 
   module _ (g : ℕ) where
     server-label : (e : Event) → Grounds st e → kindBy l e ≡ group g → (i : ℕ) → ServerReached st e i → l .of-task i ≡ g

@@ -1,6 +1,6 @@
 -- Demand 3: from a sound, shaped state, where neither order is refused for want of a processor, each event gets its one answer and the last states are
 -- equal. `free` is the machine without processors; on a sound state a step that is refused neither 1 nor 8 does what `free` does, and refusal 1 never
--- comes. Whether `free` refuses an event and what it answers are its group's own matter (`verdict-same`, `answered-same`): each test reads what the group
+-- comes. Whether `free` refuses an event and what it answers are its group's own matter (`verdict-same`, `outcome-same`): each test reads what the group
 -- reads, a lock of another group's resource is refused at 2, 3 or 4 before its owner is read, and an unlock of one at 17. It keeps `Good`, and writes
 -- what is the group's alone (Locality.antt), so it meets the laws of reordering for any labelling that fits (`ordered`). The groups of document 01 are
 -- one: a task has its group's number, a resource that of the tasks that declare it. Assumes nothing.
@@ -34,9 +34,20 @@ use Rattle.theory.proofs.Agreement.{Labels, Agree, Homed, here-same, pr
 use Rattle.theory.proofs.Locality.{kindBy, lock-label, unlock-label, owned-label, wakes-same, rests-same, after-same, after-left}
 use Rattle.theory.proofs.Groups.{fact-shares, linked-group}
 use Rattle.theory.proofs.Outcomes.{stepped-sound, stepped-free, outcome-has, outcome-not, no-test-1}
-use Rattle.theory.proofs.Soundness.{free-kept, kept}
+use Rattle.theory.proofs.Soundness.{kept, after-loose}
 use Rattle.theory.proofs.Frames.{declared-kept}
 use Rattle.theory.proofs.Steps.{after-here, after-present}
+
+-- labels that fit what is declared do so ever after
+fits-kept : (l : Labels) (st : State) (e : Event) → Fits l st → Fits l (stateAfter st e)
+unfolding declares
+fits-kept l st e f t r h p d =
+    f t r (sym (after-here st e t) ∙ h) (sym (after-present st e r) ∙ p) (ap (λ x. inSet x r) (sym (declared-kept st e t)) ∙ d)
+
+good-after : (l : Labels) (st : State) (e : Event) → Good l st → Grounds st e → Good l (stateAfter st e)
+good-after l st e ok g =
+    let k = after-loose st (ok .shaped) (ok .loose) e g in
+    record { loose = k .1; shaped = k .0; fits = fits-kept l st e (ok .fits) }
 
 -- the refusal, if there is one
 unfoldable pub verdict : State → Event → Option ℕ
@@ -117,7 +128,7 @@ module _ (l : Labels) (g : ℕ) (s u : State) (a : Agree l g s u) (good : Good l
   verdict-same (Unlock t r) k = unlock-same (t .0) r (group-inj k)
 
   -- the answer, from states before and after that agree; of an elapse it counts all servers
-  pub answered-same
+  answered-same
       : (v w : State) → Agree l g v w → Homed l v → (e : Event) → sees g (kindBy l e) ≡ true → Grounds s e
       → ((n : ℕ) → e ≡ Elapse n → countTo places (runsOut s n) ≡ countTo places (runsOut u n)) → answered s v e ≡ answered u w e
   answered-same v w b later (Wake t) k o counts =
@@ -134,6 +145,17 @@ module _ (l : Labels) (g : ℕ) (s u : State) (a : Agree l g s u) (good : Good l
   answered-same v w b later (Lock t r) k o counts =
       rw (a .resource-same .entry r (lock-label l s good t r o ∙ eqb-true _ g k), served-same l g v w b later (t .0) (eqb-true _ g k)) refl
   answered-same v w b later (Unlock t r) k o counts = rw (a .resource-same .entry r (unlock-label l s good t r o ∙ eqb-true _ g k)) refl
+
+  -- so one verdict has one outcome
+  pub outcome-same
+      : (e : Event) → ((n : ℕ) → e ≡ Elapse n → countTo places (runsOut s n) ≡ countTo places (runsOut u n)) → (v : Option ℕ)
+      → (v ≡ none → (sees g (kindBy l e) ≡ true) × Grounds s e × Grounds u e)
+      → (outcome v s e .answer ≡ outcome v u e .answer) × Agree l g (outcome v s e .state) (outcome v u e .state)
+  outcome-same e counts none has =
+      let o = has refl in
+      let b = after-same l g s u a good fine e (o .0) (o .1) (o .2) in
+      (answered-same (stateAfter s e) (stateAfter u e) b (good-home l _ (good-after l s e good (o .1))) e (o .0) (o .1) counts, b)
+  outcome-same e counts (some n) has = (refl, a)
 
 -- `free` as a pair
 abbrev freely : State → Event → Answer × State
@@ -155,17 +177,9 @@ unlike st e h =
     (λ n. holds-fails refl (rw n at h))
 
 module _ (l : Labels) where
-  -- labels that fit what is declared do so ever after
-  fits-kept : (st : State) (e : Event) → Fits l st → Fits l (stateAfter st e)
-  unfolding declares
-  fits-kept st e f t r h p d =
-      f t r (sym (after-here st e t) ∙ h) (sym (after-present st e r) ∙ p) (ap (λ x. inSet x r) (sym (declared-kept st e t)) ∙ d)
-
   good-keeps : (st : State) (e : Event) → Good l st → Good l (free st e .state)
   unfolding free
-  good-keeps st e ok =
-      let k = free-kept st e (ok .shaped) (ok .loose) in
-      record { loose = k .1; shaped = k .0; fits = outcome-has (Fits l) (firstOf (without 8 (tests st e))) st e (ok .fits) (λ n. fits-kept st e (ok .fits)) }
+  good-keeps st e ok = outcome-has (Good l) (firstOf (without 8 (tests st e))) st e ok (λ h. good-after l st e ok (grounds st e h))
 
   -- states on which all groups agree are equal
   whole : (s u : State) → Good l s → Good l u → ((g : ℕ) → Agree l g s u) → s ≡ u
@@ -185,30 +199,16 @@ module _ (l : Labels) where
         resource = rs i;
       }
 
-  module _ (g : ℕ) (s u : State) (e : Event) (k : kindBy l e ≡ group g) (good : Good l s) (fine : Good l u) (a : Agree l g s u) where
-    abbrev seen : sees g (kindBy l e) ≡ true
-    seen = rw k (eq-eqb g g refl)
-
-    writes-by : (v : Option ℕ) → verdict s e ≡ v → verdict u e ≡ v → Agree l g (outcome v s e .state) (outcome v u e .state)
-    unfolding verdict
-    writes-by none p q = after-same l g s u a good fine e seen (grounds s e p) (grounds u e q)
-    writes-by (some n) p q = a
-
-    writes : Agree l g (free s e .state) (free u e .state)
-    unfolding free verdict
-    writes = let q = verdict-same l g s u a good fine e k in rw (← q) (writes-by (verdict s e) refl (sym q))
-
-    reads-by : (v : Option ℕ) → verdict s e ≡ v → verdict u e ≡ v → outcome v s e .answer ≡ outcome v u e .answer
-    unfolding free verdict
-    reads-by none p q =
-        answered-same l g s u a good fine (stateAfter s e) (stateAfter u e) (after-same l g s u a good fine e seen (grounds s e p) (grounds u e q))
-        (rw p at (good-home l _ (good-keeps s e good))) e seen (grounds s e p)
-        (λ n q. absurd (time-group (ap (kindBy l) (sym q) ∙ k)))
-    reads-by (some n) p q = refl
-
-    reads : free s e .answer ≡ free u e .answer
-    unfolding free verdict
-    reads = let q = verdict-same l g s u a good fine e k in rw (← q) (reads-by (verdict s e) refl (sym q))
+  -- what `free` reads and writes is its group's
+  free-same
+      : (g : ℕ) (s u : State) (e : Event) → kindBy l e ≡ group g → Good l s → Good l u → Agree l g s u
+      → (free s e .answer ≡ free u e .answer) × Agree l g (free s e .state) (free u e .state)
+  unfolding free verdict
+  free-same g s u e k good fine a =
+      let q = verdict-same l g s u a good fine e k in
+      rw (← q)
+      (outcome-same l g s u a good fine e (λ n p. absurd (time-group (ap (kindBy l) (sym p) ∙ k))) (verdict s e)
+      (λ p. (rw k (eq-eqb g g refl), grounds s e p, grounds u e (sym q ∙ p))))
 
   leaves-by
       : (g h : ℕ) (st : State) (e : Event) → kindBy l e ≡ group h → (h ≡ g → ⊥) → Good l st →
@@ -228,8 +228,8 @@ module _ (l : Labels) where
         agree-trans = agree-trans l;
         whole = whole;
         keeps = good-keeps;
-        reads = λ g s u e k good fine a. reads g s u e k good fine a;
-        writes = λ g s u e k good fine a. writes g s u e k good fine a;
+        reads = λ g s u e k good fine a. free-same g s u e k good fine a .0;
+        writes = λ g s u e k good fine a. free-same g s u e k good fine a .1;
         leaves = leaves;
       }
 

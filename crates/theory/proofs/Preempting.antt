@@ -1,15 +1,14 @@
 -- Preempt: the server is Active, and the task that it executed goes on in the best Running server of its set, or nowhere. Assumes nothing.
 use Rattle.theory.proofs.Kit.{_≡_, refl, sym, ap, _∙_, true, false, ℕ}
-use Rattle.laws.proofs.Cases.{holds-fails, unheld-fails}
+use Rattle.laws.proofs.Cases.{holds-fails}
 use Rattle.theory.proofs.Declared.{Active, Server, State, Event, Preempt}
 use Rattle.model.specs.State.{serverAt, here, running, runningFor, executorOf}
 use Rattle.model.specs.Events.{withPhase, phased}
 use Rattle.model.specs.Step.{stateAfter, stepped}
 use Rattle.theory.specs.Rules.{Proper, ExecutorsStay, Preempted}
-use Rattle.theory.proofs.Executing.{runs-for}
-use Rattle.theory.proofs.Soundness.{served-executes}
-use Rattle.theory.proofs.Steps.{Way, properly, nobody-serves, ends-stay, executor-chosen, executor-stays}
-use Rattle.theory.proofs.Readings.{for-running, for-here, rests-at}
+use Rattle.theory.proofs.Executing.{runs-for, Way, served-executes}
+use Rattle.theory.proofs.Steps.{properly, nobody-serves, ends-stay, executor-chosen, executor-stays}
+use Rattle.theory.proofs.Readings.{for-here, off-for}
 use Rattle.theory.proofs.Storing.{stored-server, stored-rest, stored-for}
 
 module _ (st : State) (s : ℕ) (w : Way st (Preempt (record { 0 = s }))) where
@@ -31,7 +30,7 @@ module _ (st : State) (s : ℕ) (w : Way st (Preempt (record { 0 = s }))) where
   stored = stored-for st e w s x (w .ground .0) refl tt
 
   off : (t : ℕ) → runningFor after t s ≡ false
-  off t = unheld-fails _ (λ h. holds-fails (for-running after t s h) (rests-at after s (ap (λ (z : Server). running (z .phase)) stops)))
+  off t = off-for after t s (ap (λ (z : Server). running (z .phase)) stops)
 
   others : ExecutorsStay st after (λ t. executorOf st t ≡ s)
   others t u n =

@@ -1,14 +1,16 @@
 -- Recharge: the server has its budget again, and nobody executes elsewhere for it. Assumes nothing.
-use Rattle.theory.proofs.Kit.{_≡_, refl, sym, ap, _∙_, true, false, ℕ}
-use Rattle.laws.proofs.Cases.{split, holds-fails, unheld-fails}
-use Rattle.theory.proofs.Declared.{Phase, Idle, Active, Running, Recharging, Server, State, Event, Recharge}
-use Rattle.model.specs.State.{serverAt, taskAt, suspended, running, recharging, served}
+use Rattle.theory.proofs.Kit.{_≡_, refl, sym, ap, _∙_, false, ℕ}
+use Rattle.laws.proofs.Cases.{split}
+use Rattle.theory.proofs.Declared.{Server, State, Event, Recharge}
+use Rattle.model.specs.State.{serverAt, taskAt, suspended, running, served}
 use Rattle.model.specs.Events.{refilled, rechargedPhase, recharged}
 use Rattle.model.specs.Step.{stateAfter, stepped}
 use Rattle.theory.specs.Rules.{Proper, ExecutorsStay, nothing, Recharged}
-use Rattle.theory.proofs.Steps.{Way, properly, ends-stay}
-use Rattle.theory.proofs.Readings.{recharging-is, for-running, rests-at}
+use Rattle.theory.proofs.Steps.{properly, ends-stay}
+use Rattle.model.proofs.Variants.{recharging-is}
+use Rattle.theory.proofs.Readings.{off-for}
 use Rattle.theory.proofs.Storing.{stored-server, stored-rest, stored-executor}
+use Rattle.theory.proofs.Executing.{Way}
 
 module _ (st : State) (s : ℕ) (w : Way st (Recharge (record { 0 = s }))) where
   abbrev e : Event
@@ -33,8 +35,8 @@ module _ (st : State) (s : ℕ) (w : Way st (Recharge (record { 0 = s }))) where
   unfolding recharged
   others u v n =
       stored-executor st e w s x (w .ground .0) refl tt u v
-      (unheld-fails _ (λ f. holds-fails (for-running after u s f) (rests-at after s (ap (λ (z : Server). running (z .phase)) full ∙ resting)))
-      ∙ sym (unheld-fails _ (λ f. holds-fails (for-running st u s f) (rests-at st s (ap running (recharging-is (serverAt st s .phase) (w .ground .1)))))))
+      (off-for after u s (ap (λ (z : Server). running (z .phase)) full ∙ resting)
+      ∙ sym (off-for st u s (ap running (recharging-is (serverAt st s .phase) (w .ground .1)))))
 
   shows : Recharged st after s
   unfolding recharged rechargedPhase

@@ -8,10 +8,12 @@ use Rattle.model.specs.State.{noTask, serverAt, taskAt, here, idle, active, run
 use Rattle.model.specs.Events.{withTask, withPhase, refilled, withMode, eachServer, wakes, wokenServer, woken, rests, restedServer, rested, slept, changed}
 use Rattle.model.specs.Step.{stateAfter, stepped}
 use Rattle.model.proofs.Chain.{here-below}
-use Rattle.theory.specs.Rules.{Proper, Rest, ExecutorsStay, TaskIs, only, nothing, Slept, Woken}
+use Rattle.theory.specs.Rules.{Proper, Rest, ExecutorsStay, TaskIs, only, nothing, Slept, Woken, ExecutesNowhere}
 use Rattle.theory.proofs.Serving.{each-at}
-use Rattle.theory.proofs.Steps.{Way, properly, after-server, task-is, rest-by, ends-stay, same-for, executor-lost, executor-same, executors-stay}
-use Rattle.theory.proofs.Readings.{idle-is, resting, for-running, for-served, rests-at}
+use Rattle.theory.proofs.Steps.{properly, after-server, task-is, rest-by, ends-stay, same-for, executor-lost, executor-same, executors-stay}
+use Rattle.model.proofs.Variants.{idle-is}
+use Rattle.theory.proofs.Readings.{resting, for-served, off-for, other-for}
+use Rattle.theory.proofs.Executing.{Way}
 
 -- "Active and Running servers serving it become Idle": all that do not recharge
 at-rest : (x : Server) → (active (x .phase) || running (x .phase)) ≡ false → recharging (x .phase) ≡ false → withPhase Idle x ≡ x
@@ -88,100 +90,95 @@ module _ (st : State) (t s : ℕ) (used : here st s ≡ true) where
       (λ n. rw (used, i, n)))
       (λ n. rw (used, n))
 
-module _ (st : State) (j : ℕ) where
-  -- an event that makes every server anew and stores task j
-  module _
-      (e : Event) (w : Way st e) (f : ℕ → Server) (k : Task) (used : here st j ≡ true)
-      (is : changed st e ≡ withTask j k (eachServer st f))
-    where
-      anew : (s : ℕ) → here st s ≡ true → serverAt (changed st e) s ≡ f s
-      anew s u = ap (λ z. serverAt z s) is ∙ each-at st (w .shaped .servers) f s u
+-- an event that makes every server anew and stores task j
+module _
+    (st : State) (j : ℕ) (e : Event) (w : Way st e) (f : ℕ → Server) (k : Task) (used : here st j ≡ true)
+    (is : changed st e ≡ withTask j k (eachServer st f))
+  where
+    anew : (s : ℕ) → here st s ≡ true → serverAt (stateAfter st e) s ≡ f s
+    anew s u = after-server st e s ∙ ap (λ z. serverAt z s) is ∙ each-at st (w .shaped .servers) f s u
 
-      stores : (t : ℕ) → taskAt (changed st e) t ≡ (if eqb t j then k else taskAt st t)
-      unfolding eachServer
-      stores t = ap (λ z. taskAt z t) is ∙ getD-set (st .task) j t k noTask (omega (arith, w .shaped .tasks, here-below st j used))
+    stores : (t : ℕ) → taskAt (changed st e) t ≡ (if eqb t j then k else taskAt st t)
+    unfolding eachServer
+    stores t = ap (λ z. taskAt z t) is ∙ getD-set (st .task) j t k noTask (omega (arith, w .shaped .tasks, here-below st j used))
 
-      stored : TaskIs (stateAfter st e) j k
-      stored = task-is st e w j used k (stores j ∙ rw (eq-eqb j j refl))
+    stored : TaskIs (stateAfter st e) j k
+    stored = task-is st e w j used k (stores j ∙ rw (eq-eqb j j refl))
 
-      stirred
-          : (servers : ℕ → Type 0) → ((s : ℕ) → here st s ≡ true → (servers s → ⊥) → f s ≡ serverAt st s)
-          → Rest st (stateAfter st e) (st .clock) servers (only j) nothing
-      unfolding eachServer
-      stirred servers same =
-          rest-by st e w (st .clock) servers (only j) nothing (rw is)
-          (λ s u n. anew s u ∙ same s u n)
-          (λ t u n. stores t ∙ rw (ne-eqb t j n))
-          (λ r u n. rw is)
+    stirred
+        : (servers : ℕ → Type 0) → ((s : ℕ) → here st s ≡ true → (servers s → ⊥) → f s ≡ serverAt st s)
+        → Rest st (stateAfter st e) (st .clock) servers (only j) nothing
+    unfolding eachServer
+    stirred servers same =
+        rest-by st e w (st .clock) servers (only j) nothing (rw is)
+        (λ s u n. sym (after-server st e s) ∙ anew s u ∙ same s u n)
+        (λ t u n. stores t ∙ rw (ne-eqb t j n))
+        (λ r u n. rw is)
 
-  module _ (w : Way st (Wake (record { 0 = j }))) where
-    abbrev e : Event
-    e = Wake (record { 0 = j })
+module _ (st : State) (j : ℕ) (w : Way st (Wake (record { 0 = j }))) where
+  abbrev e : Event
+  e = Wake (record { 0 = j })
 
-    abbrev k : Task
-    k = withMode Ready (taskAt st j)
+  abbrev k : Task
+  k = withMode Ready (taskAt st j)
 
-    at : (s : ℕ) → here st s ≡ true → serverAt (stateAfter st e) s ≡ wokenServer st j s
-    unfolding woken
-    at s u = after-server st e s ∙ anew e w (wokenServer st j) k (w .ground .0) refl s u
+  at : (s : ℕ) → here st s ≡ true → serverAt (stateAfter st e) s ≡ wokenServer st j s
+  unfolding woken
+  at = anew st j e w (wokenServer st j) k (w .ground .0) refl
 
-    wakes-all : Woken st (stateAfter st e) j
-    unfolding woken
-    wakes-all = record {
-      rest =
-          stirred e w (wokenServer st j) k (w .ground .0) refl (λ s. (served st s ≡ j) × (idle (serverAt st s .phase) ≡ true)) (woken-other st j);
-      set = λ s i y. at s (i .0) ∙ woken-set st j s (i .0) (i .1) y;
-      wakes = stored e w (wokenServer st j) k (w .ground .0) refl;
-      ends = ends-stay st e w tt;
-      executors = executors-stay st e w tt (λ s u. ap (λ (x : Server). running (x .phase)) (at s u) ∙ woken-phase st j s u);
-    }
+  wakes-all : Woken st (stateAfter st e) j
+  unfolding woken
+  wakes-all = record {
+    rest =
+        stirred st j e w (wokenServer st j) k (w .ground .0) refl (λ s. (served st s ≡ j) × (idle (serverAt st s .phase) ≡ true)) (woken-other st j);
+    set = λ s i y. at s (i .0) ∙ woken-set st j s (i .0) (i .1) y;
+    wakes = stored st j e w (wokenServer st j) k (w .ground .0) refl;
+    ends = ends-stay st e w tt;
+    executors = executors-stay st e w tt (λ s u. ap (λ (x : Server). running (x .phase)) (at s u) ∙ woken-phase st j s u);
+  }
 
-  module _ (w : Way st (Suspend (record { 0 = j }))) where
-    abbrev d : Event
-    d = Suspend (record { 0 = j })
+module _ (st : State) (j : ℕ) (w : Way st (Suspend (record { 0 = j }))) where
+  abbrev d : Event
+  d = Suspend (record { 0 = j })
 
-    abbrev l : Task
-    l = withMode Suspended (taskAt st j)
+  abbrev l : Task
+  l = withMode Suspended (taskAt st j)
 
-    at-rest-now : (s : ℕ) → here st s ≡ true → serverAt (stateAfter st d) s ≡ restedServer st j s
-    unfolding slept rested
-    at-rest-now s u = after-server st d s ∙ anew d w (restedServer st j) l (w .ground .0) refl s u
+  at-rest-now : (s : ℕ) → here st s ≡ true → serverAt (stateAfter st d) s ≡ restedServer st j s
+  unfolding slept rested
+  at-rest-now = anew st j d w (restedServer st j) l (w .ground .0) refl
 
-    -- a server of another set is as it was
-    apart : (s : ℕ) → here st s ≡ true → (served st s ≡ j → ⊥) → serverAt (stateAfter st d) s ≡ serverAt st s
-    apart s u n = at-rest-now s u ∙ rested-other st j s u (λ q. n (q .0))
+  gone : (t s : ℕ) → here st s ≡ true → served st s ≡ j → runningFor (stateAfter st d) t s ≡ false
+  gone t s u q = off-for (stateAfter st d) t s (ap (λ (x : Server). running (x .phase)) (at-rest-now s u) ∙ rested-off st j s u q)
 
-    gone : (s : ℕ) → here st s ≡ true → runningFor (stateAfter st d) j s ≡ false
-    gone s u =
-        unheld-fails _
-        (λ f.
-        holds-fails (for-running (stateAfter st d) j s f)
-        (rests-at (stateAfter st d) s
-        (ap (λ (x : Server). running (x .phase)) (at-rest-now s u) ∙ rested-off st j s u (sym (ends-stay st d w tt s u) ∙ for-served (stateAfter st d) j s f))))
+  -- a server of another set is as it was
+  others : ExecutorsStay st (stateAfter st d) (only j)
+  others t u n =
+      executor-same st d w t u
+      (λ s v.
+      split
+      (eqb (served st s) j)
+      (λ y. gone t s v (eqb-true _ j y) ∙ sym (other-for st t s (λ q. n (sym q ∙ eqb-true _ j y))))
+      (λ m.
+      same-for st d w t s (ends-stay st d w tt s v)
+      (ap (λ (x : Server). running (x .phase)) (at-rest-now s v ∙ rested-other st j s v (λ q. eqb-false _ j m (q .0))))))
 
-    others : ExecutorsStay st (stateAfter st d) (only j)
-    others t u n =
-        executor-same st d w t u
-        (λ s v.
-        split
-        (eqb (served st s) j)
-        (λ y.
-        let q : served st s ≡ j = eqb-true _ j y in
-        unheld-fails _ (λ f. n (sym (for-served (stateAfter st d) t s f) ∙ ends-stay st d w tt s v ∙ q))
-        ∙ sym (unheld-fails _ (λ f. n (sym (for-served st t s f) ∙ q))))
-        (λ m. same-for st d w t s (ends-stay st d w tt s v) (ap (λ (x : Server). running (x .phase)) (apart s v (eqb-false _ j m)))))
+  nowhere : ExecutesNowhere (stateAfter st d) j
+  nowhere =
+      executor-lost st d w j (w .ground .0)
+      (λ s u. unheld-fails _ (λ f. holds-fails f (gone j s u (sym (ends-stay st d w tt s u) ∙ for-served (stateAfter st d) j s f))))
 
-    sleeps-all : Slept st (stateAfter st d) j
-    unfolding slept rested
-    sleeps-all = record {
-      rest =
-          stirred d w (restedServer st j) l (w .ground .0) refl (λ s. (served st s ≡ j) × (recharging (serverAt st s .phase) ≡ false)) (rested-other st j);
-      set = λ s i y. at-rest-now s (i .0) ∙ rested-set st j s (i .0) (i .1) y;
-      sleeps = stored d w (restedServer st j) l (w .ground .0) refl;
-      ends = ends-stay st d w tt;
-      executors = others;
-      nowhere = executor-lost st d w j (w .ground .0) gone;
-    }
+  sleeps-all : Slept st (stateAfter st d) j
+  unfolding slept rested
+  sleeps-all = record {
+    rest =
+        stirred st j d w (restedServer st j) l (w .ground .0) refl (λ s. (served st s ≡ j) × (recharging (serverAt st s .phase) ≡ false)) (rested-other st j);
+    set = λ s i y. at-rest-now s (i .0) ∙ rested-set st j s (i .0) (i .1) y;
+    sleeps = stored st j d w (restedServer st j) l (w .ground .0) refl;
+    ends = ends-stay st d w tt;
+    executors = others;
+    nowhere = nowhere;
+  }
 
 pub wakes-set : (st : State) (j : ℕ) → Proper st (Wake (record { 0 = j })) → Woken st (stepped st (Wake (record { 0 = j })) .state) j
 wakes-set st j p = properly st (Wake (record { 0 = j })) p (λ after. Woken st after j) (wakes-all st j)

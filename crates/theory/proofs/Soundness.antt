@@ -1,10 +1,10 @@
 -- Soundness is kept, and what it says over all runs. An accepted event's change is calm (the laws of Serving, Locking and Passing, put
 -- together by the grounds that its tests leave), rule H makes a calm state loose, and processors are counted by themselves (Processors.antt). So
--- `free` keeps a state loose and shaped (`free-kept`), a step keeps it sound (`kept`), and every state that a list of events reaches from a fresh
--- table is sound (`sound-always`). From that: refusal 1 never comes, a task executes in one server and does where a Running server serves it, a
+-- an accepted event keeps a state loose and shaped (`after-loose`), a step keeps it sound (`kept`), and every state that a list of events reaches from
+-- a fresh table is sound (`sound-always`). From that: refusal 1 never comes, a task executes in one server and does where a Running server serves it, a
 -- resource has one owner, and waiting never goes in a circle. Assumes nothing.
-use Rattle.theory.proofs.Kit.{_≡_, refl, sym, _∙_, ap, true, true≢false, false, some, List, [], _∷_, ℕ, _<_, arith, eqb, eqb-true, eqb-false, eq-eqb, suc}
-use Rattle.laws.specs.Tests.{firstOf, without, bit}
+use Rattle.theory.proofs.Kit.{_≡_, refl, sym, _∙_, ap, true, true≢false, false, List, [], _∷_, ℕ, arith, eqb, eqb-true, eqb-false, eq-eqb, suc}
+use Rattle.laws.specs.Tests.{firstOf, bit}
 use Rattle.laws.specs.Loops.{countTo}
 use Rattle.laws.proofs.Cases.{split, holds-fails, unheld-fails, and-left, and-right, and-both}
 use Rattle.laws.proofs.Count.{count-zero, count-but-one}
@@ -12,75 +12,55 @@ use Rattle.laws.proofs.Standing.{stands-points}
 use Rattle.laws.specs.Links.{Leads}
 use Rattle.reordering.specs.Run.{after, log, Each, Never}
 use Rattle.theory.proofs.Declared.{TaskNo, State, Event, Wake, Suspend, Dispatch, Preempt, Elapse, Recharge, Lock, Unlock, Table}
-use Rattle.model.specs.State.{places, taskAt, resourceAt, owned, ownerNo, served, here, placed, runningAt, runningFor, executorOf, executing, executes, next}
+use Rattle.model.specs.State.{places, resourceAt, owned, ownerNo, served, here, runningAt, runningFor, executorOf, executing, executes, next}
 use Rattle.model.specs.Shape.{Shaped}
-use Rattle.model.specs.Events.{firstWaiter, locked, unlocked, changed, acting}
-use Rattle.model.specs.Step.{endsAt, tests, stateAfter, free, stepped, move}
+use Rattle.model.specs.Events.{locked, unlocked, changed, acting}
+use Rattle.model.specs.Step.{tests, stateAfter, stepped, move}
 use Rattle.model.specs.Sound.{sound}
 use Rattle.model.specs.Fresh.{freshState}
 use Rattle.model.proofs.Chain.{here-below, open-unclosed}
 use Rattle.model.proofs.Sound.{Loose, Sound, sound-facts}
-use Rattle.model.proofs.Room.{stack-room, queue-room, stack-held, first-here, first-waits, executing-waits, loose-stacks}
+use Rattle.model.proofs.Room.{stack-room, stack-held, loose-stacks}
 use Rattle.model.proofs.Grounds.{Grounds, grounds, unrefused-free}
 use Rattle.model.proofs.RuleH.{serving-below}
 use Rattle.model.proofs.Fresh.{fresh-sound, fresh-shaped}
-use Rattle.model.proofs.Variants.{number-owned}
 use Rattle.theory.specs.Runs.{Accepted, reached, refusedBy, executesIn, Holds, answers}
 use Rattle.theory.proofs.Frames.{settled-shaped, changed-shaped}
 use Rattle.theory.proofs.Calm.{Calm, loose-calm, settled-loose}
-use Rattle.theory.proofs.Readings.{for-running, for-served, running-for, running-here, executes-by}
-use Rattle.theory.proofs.Executing.{runs-ready, runs-ended, runs-for, runs-served}
+use Rattle.theory.proofs.Readings.{for-running, running-for, executes-by}
+use Rattle.theory.proofs.Executing.{runs-ready, runs-for, runs-served, served-executes, Way}
 use Rattle.theory.proofs.Serving.{wake-calm, sleep-calm, dispatch-calm, preempt-calm, recharge-calm, elapse-calm}
-use Rattle.theory.proofs.Locking.{grant-calm, free-calm, wait-calm}
+use Rattle.theory.proofs.Locking.{grant-calm, free-calm, wait-calm, locked-is}
 use Rattle.theory.proofs.Passing.{pass-calm}
 use Rattle.theory.proofs.Outcomes.{stepped-sound, outcome-has, outcome-not, no-test-1}
 use Rattle.theory.proofs.Processors.{seated-after}
 
+lock-calm : (st : State) (t : TaskNo) (r : ℕ) → Way st (Lock t r) → Calm (locked st (t .0) r)
+unfolding locked
+lock-calm st t r w =
+    let g = w .ground in
+    split
+    (owned (resourceAt st r .owner))
+    (λ y. rw (locked-is st (t .0) r y w) (wait-calm st (t .0) r y w))
+    (λ n.
+    let none-waits = w .facts .unqueued r (g .1) (λ o. true≢false (sym o ∙ n)) in
+    let room = stack-room st (w .facts) (t .0) r (g .0) (g .1) (g .4) in
+    rw n (grant-calm st (w .shaped) (loose-calm st (w .facts)) (t .0) r (g .0) (g .1) none-waits (g .2) room n))
+
+unlock-calm : (st : State) (t : TaskNo) (r : ℕ) → Way st (Unlock t r) → Calm (unlocked st (t .0) r)
+unfolding unlocked
+unlock-calm st t r w =
+    let g = w .ground in
+    split
+    (eqb (resourceAt st r .waiting) 0)
+    (λ y.
+    let deep = stack-held st (w .facts) (t .0) r (g .0) (g .1) (g .3) in
+    rw y (free-calm st (w .shaped) (loose-calm st (w .facts)) (t .0) r (g .0) (g .1) (eqb-true _ 0 y) (g .3) (g .4) deep))
+    (λ n. rw n (pass-calm st (t .0) r (omega (arith, eqb-false (resourceAt st r .waiting) 0 n)) w))
+
 module _ (st : State) (shaped : Shaped st) (facts : Loose st) where
   abbrev c : Calm st
   c = loose-calm st facts
-
-  lock-calm : (t : TaskNo) (r : ℕ) → Grounds st (Lock t r) → Calm (locked st (t .0) r)
-  unfolding locked endsAt
-  lock-calm t r g =
-      split
-      (owned (resourceAt st r .owner))
-      (λ y.
-      let room = queue-room st facts (t .0) r (g .0) (g .1) (executing-waits st facts (t .0) (g .3) r (g .1) y) in
-      let apart : served st (ownerNo (resourceAt st r .owner)) ≡ t .0 → ⊥ = eqb-false _ _ (rw y at (g .5)) in
-      let ready = runs-ready st facts (t .0) (g .3) in
-      let ended = runs-ended st facts (t .0) (g .3) in
-      rw y (wait-calm st shaped c (t .0) r (g .0) (g .1) (g .2) ready ended y room apart))
-      (λ n.
-      let none-waits = facts .unqueued r (g .1) (λ o. true≢false (sym o ∙ n)) in
-      rw n (grant-calm st shaped c (t .0) r (g .0) (g .1) none-waits (g .2) (stack-room st facts (t .0) r (g .0) (g .1) (g .4)) n))
-
-  -- who inherits has room for it
-  pub heir-room : (t : TaskNo) (r : ℕ) → Grounds st (Unlock t r) → 0 < resourceAt st r .waiting → taskAt st (firstWaiter (resourceAt st r)) .depth < places
-  heir-room t r g queue =
-      stack-room st facts (firstWaiter (resourceAt st r)) r (first-here st facts r (g .1) queue) (g .1)
-      (λ e.
-      let owner : firstWaiter (resourceAt st r) ≡ t .0 = sym e ∙ g .3 in
-      executing-waits st facts (t .0) (g .2) r (g .1)
-      (number-owned (resourceAt st r .owner) (rw (g .3) (here-below st (t .0) (g .0))))
-      (rw owner at (first-waits st facts r (g .1) queue)))
-
-  unlock-calm : (t : TaskNo) (r : ℕ) → Grounds st (Unlock t r) → Calm (unlocked st (t .0) r)
-  unfolding unlocked
-  unlock-calm t r g =
-      let deep = stack-held st facts (t .0) r (g .0) (g .1) (g .3) in
-      split
-      (eqb (resourceAt st r .waiting) 0)
-      (λ y. rw y (free-calm st shaped c (t .0) r (g .0) (g .1) (eqb-true _ 0 y) (g .3) (g .4) deep))
-      (λ n.
-      let some : 0 < resourceAt st r .waiting = omega (arith, eqb-false (resourceAt st r .waiting) 0 n) in
-      let h = firstWaiter (resourceAt st r) in
-      let used = first-here st facts r (g .1) some in
-      let waits = first-waits st facts r (g .1) some in
-      let ready = runs-ready st facts (t .0) (g .2) in
-      let ended = runs-ended st facts (t .0) (g .2) in
-      let room = heir-room t r g some in
-      rw n (pass-calm st shaped c (t .0) r h (g .0) (g .1) ready ended (g .3) (g .4) deep some refl used waits room))
 
   changed-calm : (e : Event) → Grounds st e → Calm (changed st e)
   changed-calm (Wake t) g = wake-calm st shaped c (t .0) (g .0) (g .1)
@@ -89,22 +69,15 @@ module _ (st : State) (shaped : Shaped st) (facts : Loose st) where
   changed-calm (Preempt s) g = preempt-calm st shaped c (s .0) (g .0) (g .1)
   changed-calm (Elapse n) g = elapse-calm st shaped c n (g .0) (g .1) (g .2)
   changed-calm (Recharge s) g = recharge-calm st shaped c (s .0) (g .0)
-  changed-calm (Lock t r) g = lock-calm t r g
-  changed-calm (Unlock t r) g = unlock-calm t r g
+  changed-calm (Lock t r) g = lock-calm st t r (record { shaped = shaped; facts = facts; ground = g })
+  changed-calm (Unlock t r) g = unlock-calm st t r (record { shaped = shaped; facts = facts; ground = g })
 
   -- an event that no test refuses, with rule H
-  after-loose : (e : Event) → Grounds st e → Shaped (stateAfter st e) × Loose (stateAfter st e)
+  pub after-loose : (e : Event) → Grounds st e → Shaped (stateAfter st e) × Loose (stateAfter st e)
   unfolding stateAfter
   after-loose e g =
       let d = changed-shaped st shaped e in
       (settled-shaped st (changed st e) (acting st e) d, settled-loose st (changed st e) (acting st e) d (changed-calm e g))
-
--- `free` keeps a state loose and shaped
-pub free-kept : (st : State) (e : Event) → Shaped st → Loose st → Shaped (free st e .state) × Loose (free st e .state)
-unfolding free
-free-kept st e shaped facts =
-    outcome-has (λ x. Shaped x × Loose x) (firstOf (without 8 (tests st e))) st e (shaped, facts)
-    (λ h. after-loose st shaped facts e (grounds st e h))
 
 -- soundness is kept by every event,
 pub kept : (st : State) (e : Event) → Shaped st → sound st ≡ true → Shaped (stepped st e .state) × (sound (stepped st e .state) ≡ true)
@@ -161,12 +134,6 @@ module _ (st : State) (facts : Loose st) where
   holder-owns : (t r : ℕ) → here st t ≡ true → Holds st t r → ownerNo (resourceAt st r .owner) ≡ t
   holder-owns t r u h = rw (← (h .there)) (stands-points (loose-stacks st facts) (here-below st) t (h .place) u (h .within))
 
-  pub served-executes : (t s : ℕ) → here st t ≡ true → runningFor st t s ≡ true → executing st t ≡ true
-  unfolding executing
-  served-executes t s u h =
-      let r = for-running st t s h in
-      and-both (here st t) _ u (ap (λ x. placed (taskAt st x .runs)) (sym (for-served st t s h)) ∙ facts .serves s (running-here st s r) r)
-
   pub executes-for : (t s : ℕ) → executesIn st t s ≡ true → runningFor st t s ≡ true
   unfolding executes
   executes-for t s h = running-for st t s (and-left (runningAt st s) _ (and-left (executes st s) _ h)) (eqb-true _ t (and-right (executes st s) _ h))
@@ -190,7 +157,7 @@ module _ (st : State) (facts : Loose st) where
       omega (arith, k, ap bit y, ap bit in-it, count-zero places (λ j. false) (λ i l. refl)))
       (λ n.
       count-zero places (executesIn st t)
-      (λ s l. unheld-fails _ (λ h. holds-fails (served-executes t s u (executes-for t s h)) n))
+      (λ s l. unheld-fails _ (λ h. holds-fails (served-executes st facts t s u (executes-for t s h)) n))
       ∙ sym (ap bit n))
 
 pub one-owner

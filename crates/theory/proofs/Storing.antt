@@ -8,8 +8,8 @@ use Rattle.model.specs.Events.{withServer, changed}
 use Rattle.model.specs.Step.{stateAfter}
 use Rattle.model.proofs.Chain.{here-below}
 use Rattle.theory.specs.Rules.{Rest, only, nothing}
-use Rattle.theory.proofs.Executing.{Quiet}
-use Rattle.theory.proofs.Steps.{Way, after-server, rest-by, ends-stay, same-for, executor-same}
+use Rattle.theory.proofs.Steps.{Quiet, after-server, rest-by, ends-stay, same-for, executor-same}
+use Rattle.theory.proofs.Executing.{Way}
 
 module _ (st : State) (e : Event) (w : Way st e) (s : ℕ) (x : Server) (used : here st s ≡ true) (is : changed st e ≡ withServer s x st) where
   abbrev after : State

@@ -117,52 +117,43 @@ own-lent true true n = omega arith
 own-lent true false n = omega arith
 own-lent false b n = refl
 
-module _
-    (st next : State)
-    (n : ℕ)
-    (facts : Loose st)
-    (same : (i : ℕ) → here next i ≡ here st i)
-    (accounts : (i : ℕ) → here st i ≡ true → Accounts st next n i)
-  where
-    did-grows : total next (did next) ≡ total st (did st) + n * countTo places (executing st)
-    did-grows = total-grows st next (did next) (did st) n (executing st) same past (λ i u. accounts i u .executed)
-      where
-        past : (i : ℕ) → here st i ≡ false → executing st i ≡ false
-        past i m = unheld-fails _ (λ h. holds-fails (executing-here st i h) m)
-
-    gave-grows : total next (gave next) ≡ total st (gave st) + n * countTo places (executing st)
-    unfolding lentTicks
-    gave-grows =
-        total-grows st next (gave next) (gave st) n (executes st) same past
-        (λ i u.
-        let a = accounts i u in
-        omega (arith, a .own, a .lent, own-lent (executes st i) (eqb (served st i) i) n))
-        ∙ ap (λ k. total st (gave st) + n * k) (executes-count st facts)
-      where
-        past : (i : ℕ) → here st i ≡ false → executes st i ≡ false
-        past i m = unheld-fails _ (λ h. holds-fails (executes-here st i h) m)
-
-    -- of one task: as many ticks as servers execute it for
-    one-grows : (t : ℕ) → here st t ≡ true → did next t ≡ did st t + n * countTo places (executesIn st t)
-    one-grows t u =
-        accounts t u .executed
-        ∙ ap (λ k. did st t + k) (sym (times-bit n (executing st t)) ∙ ap (λ k. n * k) (sym (servers-count st facts t u)))
-
 -- an event, with the ticks that pass in it
-pub record Grown (st next : State) (n : ℕ) : Type 0 where
-  pub given : total next (gave next) ≡ total st (gave st) + n * countTo places (executing st)
-  pub done : total next (did next) ≡ total st (did st) + n * countTo places (executing st)
-  pub each : (t : ℕ) → here st t ≡ true → did next t ≡ did st t + n * countTo places (executesIn st t)
+module _ (st : State) (s : sound st ≡ true) (e : Event) where
+  abbrev next : State
+  next = stepped st e .state
 
-step-grown : (st : State) → sound st ≡ true → (e : Event) → Grown st (stepped st e .state) (lasts st e)
-step-grown st s e =
-    let facts : Loose st = sound-facts st .holds s .is-loose in
-    let adds : (i : ℕ) → here st i ≡ true → Accounts st (stepped st e .state) (lasts st e) i = λ i u. event-adds st s i u e in
-    record {
-      given = gave-grows st (stepped st e .state) (lasts st e) facts (stepped-here st e) adds;
-      done = did-grows st (stepped st e .state) (lasts st e) facts (stepped-here st e) adds;
-      each = one-grows st (stepped st e .state) (lasts st e) facts (stepped-here st e) adds;
-    }
+  abbrev n : ℕ
+  n = lasts st e
+
+  facts : Loose st
+  facts = sound-facts st .holds s .is-loose
+
+  accounts : (i : ℕ) → here st i ≡ true → Accounts st next n i
+  accounts i u = event-adds st s i u e
+
+  did-grows : total next (did next) ≡ total st (did st) + n * countTo places (executing st)
+  did-grows = total-grows st next (did next) (did st) n (executing st) (stepped-here st e) past (λ i u. accounts i u .executed)
+    where
+      past : (i : ℕ) → here st i ≡ false → executing st i ≡ false
+      past i m = unheld-fails _ (λ h. holds-fails (executing-here st i h) m)
+
+  gave-grows : total next (gave next) ≡ total st (gave st) + n * countTo places (executing st)
+  unfolding lentTicks
+  gave-grows =
+      total-grows st next (gave next) (gave st) n (executes st) (stepped-here st e) past
+      (λ i u.
+      let a = accounts i u in
+      omega (arith, a .own, a .lent, own-lent (executes st i) (eqb (served st i) i) n))
+      ∙ ap (λ k. total st (gave st) + n * k) (executes-count st facts)
+    where
+      past : (i : ℕ) → here st i ≡ false → executes st i ≡ false
+      past i m = unheld-fails _ (λ h. holds-fails (executes-here st i h) m)
+
+  -- of one task: as many ticks as servers execute it for
+  one-grows : (t : ℕ) → here st t ≡ true → did next t ≡ did st t + n * countTo places (executesIn st t)
+  one-grows t u =
+      accounts t u .executed
+      ∙ ap (λ k. did st t + k) (sym (times-bit n (executing st t)) ∙ ap (λ k. n * k) (sym (servers-count st facts t u)))
 
 -- a run
 abbrev Totals : State → State → ℕ → Type 0
@@ -173,9 +164,8 @@ unfolding after ticks
 run-totals st shaped s [] = (omega arith, omega arith)
 run-totals st shaped s (e ∷ es) =
     let k = kept st e shaped s in
-    let one = step-grown st s e in
     let rest = run-totals (stepped st e .state) (k .0) (k .1) es in
-    (omega (arith, one .given, rest .0), omega (arith, one .done, rest .1))
+    (omega (arith, gave-grows st s e, rest .0), omega (arith, did-grows st s e, rest .1))
 
 run-each
     : (st : State) → Shaped st → sound st ≡ true → (es : List Event) (t : ℕ) → here st t ≡ true
@@ -184,7 +174,7 @@ unfolding after ticksFor
 run-each st shaped s [] t u = omega arith
 run-each st shaped s (e ∷ es) t u =
     let k = kept st e shaped s in
-    omega (arith, step-grown st s e .each t u, run-each (stepped st e .state) (k .0) (k .1) es t (stepped-here st e t ∙ u))
+    omega (arith, one-grows st s e t u, run-each (stepped st e .state) (k .0) (k .1) es t (stepped-here st e t ∙ u))
 
 run-here : (st : State) (es : List Event) (t : ℕ) → here (after move st es) t ≡ here st t
 unfolding after
@@ -210,15 +200,15 @@ module _ (tb : Table) (a : Accepted tb) (es : List Event) where
   abbrev st : State
   st = freshState tb
 
-  facts : Loose st
-  facts = sound-facts st .holds (fresh-sound tb a) .is-loose
+  fresh-facts : Loose st
+  fresh-facts = sound-facts st .holds (fresh-sound tb a) .is-loose
 
   pub ticks-are
       : (total (reached tb es) (gave (reached tb es)) ≡ total (reached tb es) (did (reached tb es))) ×
       (total (reached tb es) (did (reached tb es)) ≡ ticks st es)
   ticks-are =
       let g = run-totals st (fresh-shaped tb) (fresh-sound tb a) es in
-      let z = nothing st facts (fresh-clock tb) in
+      let z = nothing st fresh-facts (fresh-clock tb) in
       (omega (arith, g .0, g .1, z .0, z .1), omega (arith, g .1, z .1))
 
   pub each-tick-once
@@ -226,6 +216,6 @@ module _ (tb : Table) (a : Accepted tb) (es : List Event) where
       → (did (reached tb es) t ≡ ticksFor t st es) × (countTo places (executesIn (reached tb es) t) ≤ 1)
   each-tick-once t u =
       let used : here st t ≡ true = sym (run-here st es t) ∙ u in (
-        omega (arith, run-each st (fresh-shaped tb) (fresh-sound tb a) es t used, none-did st facts (fresh-clock tb) t used),
+        omega (arith, run-each st (fresh-shaped tb) (fresh-sound tb a) es t used, none-did st fresh-facts (fresh-clock tb) t used),
         rw (servers-that-execute tb a es t u .0) (bit-le (executing (reached tb es) t)),
       )

@@ -2,24 +2,24 @@
 -- What is in use is a group, for any labels that give it the number 0: all that soundness asks, each test, the change, rule H and the answer read that
 -- group alone, and most of this is what Locality.antt and Order.antt say of a group. Only the tests and the answer that speak of all servers
 -- (no processor free, an elapse) are compared here. Assumes nothing.
-use Rattle.theory.proofs.Kit.{_≡_, refl, sym, ap, ap₂, _∙_, Bool, true, false, not, _||_, List, _∷_, Option, none, some, ℕ, _+_, arith, ltb, eqb, eq-eqb}
+use Rattle.theory.proofs.Kit.{_≡_, refl, sym, ap, ap₂, _∙_, Bool, true, false, not, _||_, List, _∷_, ℕ, _+_, arith, ltb, eqb, eq-eqb}
 use Rattle.laws.specs.Tests.{if_then_else_, _when_or_, accepted, firstOf, without}
 use Rattle.laws.proofs.Cases.{split, holds-fails, unheld-fails, if-yes, first-yes}
 use Rattle.laws.proofs.Count.{count-ext}
 use Rattle.laws.proofs.All.{all-ext}
 use Rattle.reordering.specs.Order.{group, sees}
-use Rattle.theory.proofs.Declared.{State, Outcome, Event, Wake, Suspend, Dispatch, Preempt, Elapse, Recharge, Lock, Unlock}
+use Rattle.theory.proofs.Declared.{State, Event, Wake, Suspend, Dispatch, Preempt, Elapse, Recharge, Lock, Unlock}
 use Rattle.model.specs.State.{places, serverAt, taskAt, resourceAt, here, present, declares, served, runningAt, runningFor}
 use Rattle.model.specs.Sound.{clockLimit, each, ifHere, heldAt, queuedAt, sound}
 use Rattle.model.specs.Shape.{Shaped}
 use Rattle.model.specs.Events.{runsOut}
-use Rattle.model.specs.Step.{crowded, affords, tests, stateAfter, outcome, stepped}
+use Rattle.model.specs.Step.{crowded, affords, tests, stepped}
 use Rattle.model.proofs.Sound.{Loose, sound-facts}
 use Rattle.model.proofs.Grounds.{Grounds, grounds, unrefused-free}
 use Rattle.theory.proofs.Outcomes.{stepped-has, stepped-sound}
 use Rattle.theory.proofs.Agreement.{Labels, Agree, Homed, agree-sym, here-same, present-same, next-same, served-same, served-in, for-same, Good}
-use Rattle.theory.proofs.Locality.{kindBy, after-same}
-use Rattle.theory.proofs.Order.{verdict, verdict-same, answered-same}
+use Rattle.theory.proofs.Locality.{kindBy}
+use Rattle.theory.proofs.Order.{verdict, verdict-same, outcome-same}
 use Rattle.theory.proofs.Steps.{after-here, after-present}
 
 -- what is in use has the label 0
@@ -182,28 +182,14 @@ module _ (l : Labels) (s u : State) (c : Covers l s) (a : Agree l 0 s u) (shaped
   seen (Lock t r) g = eq-eqb _ 0 (c .task (t .0) (g .0))
   seen (Unlock t r) g = eq-eqb _ 0 (c .task (t .0) (g .0))
 
-  after-home : (e : Event) → Homed l (stateAfter s e)
-  after-home e =
-      covered-home l (stateAfter s e)
-      (record { task = λ i h. c .task i (sym (after-here s e i) ∙ h); resource = λ r p. c .resource r (sym (after-present s e r) ∙ p) })
-
   -- one answer, and agreement after it
-  abbrev Both : (v w : Outcome) → Type 0
-  Both v w = (v .answer ≡ w .answer) × Agree l 0 (v .state) (w .state)
-
-  outcomes : (e : Event) (v : Option ℕ) → firstOf (tests s e) ≡ v → firstOf (tests u e) ≡ v → Both (outcome v s e) (outcome v u e)
-  outcomes e none p q =
-      let gs = grounds s e (unrefused-free s e p) in
-      let b = after-same l 0 s u a good fine e (seen e gs) gs (grounds u e (unrefused-free u e q)) in (
-        answered-same l 0 s u a good fine (stateAfter s e) (stateAfter u e) b (after-home e) e (seen e gs) gs
-            (λ n d. count-ext places (runsOut s n) (runsOut u n) (λ i m. out-both n i)),
-        b,
-      )
-  outcomes e (some n) p q = (refl, a)
-
-  sound-unread : (e : Event) → Both (stepped s e) (stepped u e)
+  sound-unread : (e : Event) → (stepped s e .answer ≡ stepped u e .answer) × Agree l 0 (stepped s e .state) (stepped u e .state)
   sound-unread e =
-      rw (stepped-sound s e y, stepped-sound u e (sound-both l s u c a y), ← (firsts e)) (outcomes e (firstOf (tests s e)) refl (sym (firsts e)))
+      rw (stepped-sound s e y, stepped-sound u e (sound-both l s u c a y), ← (firsts e))
+      (outcome-same l 0 s u a good fine e (λ n d. count-ext places (runsOut s n) (runsOut u n) (λ i m. out-both n i)) (firstOf (tests s e))
+      (λ h.
+      let gs = grounds s e (unrefused-free s e h) in
+      (seen e gs, gs, grounds u e (unrefused-free u e (sym (firsts e) ∙ h)))))
 
 pub unread
     : (l : Labels) (s u : State) → Covers l s → Agree l 0 s u → Shaped s → Shaped u
