@@ -7,6 +7,19 @@ use Rattle.soundness.proofs.sound.is_sound.Reads as IsSound
 use Rattle.soundness.proofs.start.fresh.Reads as Fresh
 use Rattle.settle.proofs.query.executing.Reads as Executing
 use Rattle.chain.proofs.walk.chain_end.Reads as ChainEnd
+use Rattle.chain.proofs.walk.chain_ends.Reads as ChainEnds
+use Rattle.chain.proofs.walk.ends.Reads as Ends
+use Rattle.chain.proofs.links.owners.Reads as Owners
+use Rattle.chain.proofs.links.nexts.Reads as Nexts
+use Rattle.chain.proofs.links.at_or_nobody.Reads as AtOrNobody
+use Rattle.chain.proofs.servers.executors.Reads as Executors
+use Rattle.chain.proofs.servers.running_for.Reads as RunningFor
+use Rattle.chain.proofs.servers.budgets.Reads as Budgets
+use Rattle.events.proofs.event.refusal.Reads as Refusal
+use Rattle.meter.proofs.rows.fill.Reads as FillRows
+use Rattle.meter.proofs.row.row_of.Reads as RowOf
+use Rattle.meter.proofs.answer.decided.Reads as Decided
+use Rattle.meter.proofs.answer.rows_written.Reads as RowsWritten
 use Rattle.bound.proofs.answer.bound.Reads as Bound
 use Rattle.bound.proofs.table.table_refusal.Reads as TableRefusal
 use Rattle.bound_text.proofs.read.read.Reads as ReadText
@@ -14,6 +27,9 @@ use Rattle.bound_text.proofs.read.number.Reads as ReadNumber
 use Rattle.bound_text.proofs.fault.table_to.Reads as TableTo
 use Rattle.bound_text.proofs.fault.faulty_line.Reads as FaultyLine
 use Rattle.trace.proofs.Place.read.Reads as ReadRecord
+use Rattle.trace.proofs.kinds.body_length.Reads as BodyLength
+use Rattle.trace.proofs.kinds.is_event.Reads as IsEvent
+use Rattle.trace.proofs.kinds.event_of.Reads as EventOf
 use Rattle.listing.proofs.whole.replay.Reads as Replay
 use Rattle.listing.proofs.buffers.file_buffer.Reads as FileBuffer
 use Rattle.listing.proofs.buffers.text_buffer.Reads as TextBuffer
@@ -26,6 +42,12 @@ use Rattle.vesztamor.proofs.stepping.vesztamor_step.Reads as ExportStep
 use Rattle.vesztamor.proofs.bounds.vesztamor_bound.Reads as ExportBound
 use Rattle.vesztamor.proofs.replaying.vesztamor_replay.Reads as ExportReplay
 use Rattle.model.proofs.blank.unusable_state.Reads as UnusableState
+use Rattle.model.proofs.builders.with_phase.Reads as WithPhase
+use Rattle.model.proofs.builders.with_mode.Reads as WithMode
+use Rattle.model.proofs.builders.with_runs.Reads as WithRuns
+use Rattle.model.proofs.builders.with_owner.Reads as WithOwner
+use Rattle.model.proofs.builders.refused.Reads as Refused
+use Rattle.model.proofs.entries.executor_in.Reads as ExecutorIn
 use Rattle.model.proofs.entries.in_use.Reads as InUse
 use Rattle.model.proofs.entries.in_set.Reads as InSet
 use Rattle.model.proofs.entries.is_idle.Reads as IsIdle
@@ -64,6 +86,21 @@ pub record EachUnique : Type 0 where
   pub fresh : Unique Fresh.Post
   pub executing : Unique Executing.Post
   pub chain-end : Unique ChainEnd.Post
+  -- What is taken out of a state, and the first test that refuses an event.
+  pub chain-ends : Unique ChainEnds.Post
+  pub ends : Unique Ends.Post
+  pub owners : Unique Owners.Post
+  pub nexts : Unique Nexts.Post
+  pub at-or-nobody : Unique AtOrNobody.Post
+  pub executors : Unique Executors.Post
+  pub running-for : Unique RunningFor.Post
+  pub budgets : Unique Budgets.Post
+  pub refusal : Unique Refusal.Post
+  -- Meter rows: the rows at exit are the second argument.
+  pub fill-rows : UniqueLent FillRows.Post (λ κ x. now (x .1 .0))
+  pub row-of : Unique RowOf.Post
+  pub decided : Unique Decided.Post
+  pub rows-written : Unique RowsWritten.Post
   -- The bound, its table, and its text.
   pub bound : Unique Bound.Post
   pub table-refusal : Unique TableRefusal.Post
@@ -73,6 +110,9 @@ pub record EachUnique : Type 0 where
   pub faulty-line : Unique FaultyLine.Post
   -- Trace and replay: the buffer at exit is the replay's second argument.
   pub read-record : Unique ReadRecord.Post
+  pub body-length : Unique BodyLength.Post
+  pub is-event : Unique IsEvent.Post
+  pub event-of : Unique EventOf.Post
   pub replay : UniqueLent Replay.Post (λ κ x. now (x .1 .0))
   pub file-buffer : Unique FileBuffer.Post
   pub text-buffer : Unique TextBuffer.Post
@@ -86,8 +126,14 @@ pub record EachUnique : Type 0 where
   pub export-step : UniqueLent ExportStep.Post (λ κ x. now (x .0))
   pub export-bound : UniqueLent ExportBound.Post (λ κ x. now (x .1 .1 .1 .0))
   pub export-replay : UniqueLent ExportReplay.Post (λ κ x. now (x .1 .0))
-  -- The model's own tests and numbers, and the state of no use.
+  -- The model's own entries, tests and numbers, and the state of no use.
   pub unusable-state : Unique UnusableState.Post
+  pub with-phase : Unique WithPhase.Post
+  pub with-mode : Unique WithMode.Post
+  pub with-runs : Unique WithRuns.Post
+  pub with-owner : Unique WithOwner.Post
+  pub refused : Unique Refused.Post
+  pub executor-in : Unique ExecutorIn.Post
   pub in-use : Unique InUse.Post
   pub in-set : Unique InSet.Post
   pub is-idle : Unique IsIdle.Post
