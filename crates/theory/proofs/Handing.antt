@@ -74,7 +74,7 @@ module _ (st : State) (t r : ℕ) (some : 0 < resourceAt st r .waiting) (way : W
   e = Unlock (record { 0 = t }) r
 
   abbrev mid : State
-  mid = passed st t r h
+  mid = T.after st t r some way
 
   abbrev after : State
   after = stateAfter st e
@@ -95,7 +95,7 @@ module _ (st : State) (t r : ℕ) (some : 0 < resourceAt st r .waiting) (way : W
   by-wants w v = awaits-is (taskAt st w .mode) r (present-below st r known) (eqb-true _ r (and-right (here st w) _ v))
 
   changed-is : changed st e ≡ mid
-  unfolding unlocked
+  unfolding unlocked passed
   changed-is = rw (ne-eqb (resourceAt st r .waiting) 0 (λ z. omega arith))
 
   after-links : (y : ℕ) → next after y ≡ next mid y
@@ -134,7 +134,6 @@ module _ (st : State) (t r : ℕ) (some : 0 < resourceAt st r .waiting) (way : W
   resource-now q = ap (λ z. resourceAt z q) changed-is ∙ T.pass-resource st t r some way q
 
   server-now : (s : ℕ) → serverAt (changed st e) s ≡ serverAt st s
-  unfolding passed
   server-now s = ap (λ z. serverAt z s) changed-is
 
   -- the heir did not execute: the releaser's server takes it where it serves it now
@@ -201,7 +200,6 @@ module _ (st : State) (t r : ℕ) (some : 0 < resourceAt st r .waiting) (way : W
       leads-through (suc k) v l m = record { waiter = v; here-waits = m; way = inr (record { links = k; way = l }) }
 
   passes : Passed st after t r h
-  unfolding passed
   passes = record {
     rest =
         rest-by st e way (st .clock) nothing (λ y. (y ≡ t) ⊎ (y ≡ h)) (only r) (ap (λ z. z .clock) changed-is)
