@@ -138,7 +138,7 @@ loose-calm st h = record {
   executed = λ i u. h .accounts i u .0;
 }
 
-pub calm-loose : (st : State) → Calm st → Each st (Executor st) → Each st (Serves st) → Loose st
+calm-loose : (st : State) → Calm st → Each st (Executor st) → Each st (Serves st) → Loose st
 unfolding heldAt queuedAt
 calm-loose st h e s = record {
   processors-least = h .counts .0;
