@@ -1,7 +1,7 @@
 -- Laws of tests: case analysis, choices, conjunctions, and the first of several numbered tests. Assumes nothing.
 use mathlib.Core.Path.{_≡_, refl, sym, _∙_}
 use mathlib.Core.Bool.{Bool, true, false, _&&_, true≢false}
-use mathlib.Core.List.{List, [], _∷_, List·Memᴰ, List·Memᴰ·not-nil, List·Memᴰ·cases-cons}
+use mathlib.Core.List.{List, [], _∷_, List·Memᴰ, List·Memᴰ·head, List·Memᴰ·tail, List·Memᴰ·not-nil, List·Memᴰ·cases-cons}
 use mathlib.Core.Logic.{⊎-elim}
 use mathlib.Core.Option.{Option, none, some}
 use Prim.Native.Nat.{ℕ}
@@ -87,6 +87,19 @@ none-later n b ts h = sym (first-no n b ts (none-fails n b ts h)) ∙ h
 -- where the first test's number is not given, the rest decide
 pub first-rest : (n : ℕ) (b : Bool) (ts : List (ℕ × Bool)) → (firstOf ((n, b) ∷ ts) ≡ some n → ⊥) → firstOf ((n, b) ∷ ts) ≡ firstOf ts
 first-rest n b ts x = split b (λ e. absurd (x (first-yes n b ts e))) (first-no n b ts)
+
+-- what is given is the number of a test that holds
+pub first-some : (ts : List (ℕ × Bool)) (n : ℕ) → firstOf ts ≡ some n → List·Memᴰ (n, true) ts
+unfolding firstOf
+first-some [] n h = none-some h
+first-some (t ∷ ts) n h =
+    split
+    (t .1)
+    (λ y.
+    let q : some (t .0) ≡ some n = rw y at h in
+    let e : t .0 ≡ n = cc in
+    List·Memᴰ·head (λ i. (sym e i, sym y i)))
+    (λ f. List·Memᴰ·tail (first-some ts n (rw f at h)))
 
 -- where nothing is given every test fails
 pub first-none : (ts : List (ℕ × Bool)) → firstOf ts ≡ none → (t : ℕ × Bool) → List·Memᴰ t ts → t .1 ≡ false

@@ -3,7 +3,7 @@
 -- soundness and holds of the state between change and rule H too, and it is all that locality needs: chains stay inside a label (`served-home`), so
 -- what a group reads is its own: ends, who serves, who executes, whom rule H would choose. `Good` is what `free` keeps; nothing in it speaks of
 -- processors. Every number has a label, so entries past the counts and undeclared resources need nothing special. Assumes nothing.
-use Rattle.theory.proofs.Kit.{_≡_, refl, sym, ap, _∙_, Bool, true, false, _&&_, inl, inr, ℕ, zero, suc, _<_, arith, ltb, eqb, length, ltb-true, eqb-true, eqb-false}
+use Rattle.theory.proofs.Kit.{_≡_, refl, sym, ap, _∙_, Bool, true, false, _&&_, inl, inr, ℕ, zero, suc, _<_, arith, ltb, eqb, ltb-true, eqb-true, eqb-false}
 use Rattle.laws.proofs.Cases.{split, and-left, and-right}
 use Rattle.laws.proofs.SameAt.{SameAt, same-refl, same-sym, same-trans}
 use Rattle.model.specs.declared.State.{State}
@@ -38,19 +38,6 @@ pub record Homed (l : Labels) (st : State) : Type 0 where
       l .of-resource r ≡ l .of-task (ownerNo (resourceAt st r .owner))
 
 module _ (l : Labels) where
-  agree-refl
-      : (g : ℕ) (s : State) → length (s .server) ≡ places → length (s .task) ≡ places → length (s .resource) ≡ places → Agree l g s s
-  agree-refl g s p q r =
-      record {
-        processors-same = refl;
-        tasks-same = refl;
-        resources-same = refl;
-        clock-same = refl;
-        server-same = same-refl _ p;
-        task-same = same-refl _ q;
-        resource-same = same-refl _ r;
-      }
-
   pub agree-sym : (g : ℕ) (s u : State) → Agree l g s u → Agree l g u s
   agree-sym g s u a =
       record {
@@ -209,4 +196,12 @@ good-home l st ok =
     }
 
 pub good-self : (l : Labels) (g : ℕ) (st : State) → Good l st → Agree l g st st
-good-self l g st ok = agree-refl l g st (ok .shaped .servers) (ok .shaped .tasks) (ok .shaped .resources)
+good-self l g st ok = record {
+  processors-same = refl;
+  tasks-same = refl;
+  resources-same = refl;
+  clock-same = refl;
+  server-same = same-refl _ (ok .shaped .servers);
+  task-same = same-refl _ (ok .shaped .tasks);
+  resource-same = same-refl _ (ok .shaped .resources);
+}

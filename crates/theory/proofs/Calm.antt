@@ -116,15 +116,6 @@ pub record Calm (st : State) : Type 0 where
   pub locks : Locks st
   pub executed : Each st (λ i. taskAt st i .executed ≤ st .clock)
 
-loose-locks : (st : State) → Loose st → Locks st
-loose-locks st h = record {
-  declaration = h .declaration;
-  stacks = loose-stacks st h;
-  queues = loose-queues st h;
-  unqueued = h .unqueued;
-  opens = h .opens;
-}
-
 pub loose-calm : (st : State) → Loose st → Calm st
 loose-calm st h = record {
   counts = (h .processors-least, h .processors-most, h .tasks-least, h .tasks-most, h .resources-most);
@@ -137,11 +128,17 @@ loose-calm st h = record {
     idles = h .idles i u;
     spent = h .accounts i u .1;
   };
-  locks = loose-locks st h;
+  locks = record {
+    declaration = h .declaration;
+    stacks = loose-stacks st h;
+    queues = loose-queues st h;
+    unqueued = h .unqueued;
+    opens = h .opens;
+  };
   executed = λ i u. h .accounts i u .0;
 }
 
-pub calm-loose : (st : State) → Calm st → Each st (Executor st) → Each st (Serves st) → Loose st
+calm-loose : (st : State) → Calm st → Each st (Executor st) → Each st (Serves st) → Loose st
 unfolding heldAt queuedAt
 calm-loose st h e s = record {
   processors-least = h .counts .0;

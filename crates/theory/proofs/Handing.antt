@@ -7,11 +7,11 @@ use Rattle.laws.specs.Links.{Leads}
 use Rattle.laws.proofs.Cases.{split, holds-fails, unheld-fails, and-left, and-right, and-both}
 use Rattle.laws.proofs.Count.{count-zero}
 use Rattle.theory.proofs.Declared.{Mode, Suspended, Ready, Waiting, By, Server, State, Event, Unlock}
-use Rattle.model.specs.State.{places, nobody, serverAt, taskAt, resourceAt, here, present, running, awaited, ownerNo, ownerOf, next, served, runningFor, executorOf, executing}
+use Rattle.model.specs.State.{places, serverAt, taskAt, resourceAt, here, present, running, awaited, ownerNo, ownerOf, next, served, runningFor, executorOf, executing}
 use Rattle.model.specs.Sound.{heldAt}
 use Rattle.model.specs.Events.{withMode, withOwner, pushed, popped, dequeued, firstWaiter, passed, unlocked, changed, acting}
 use Rattle.model.specs.Step.{topOf, stateAfter, stepped}
-use Rattle.model.proofs.Chain.{here-below, present-below, next-here, linked-here, served-walk, end-itself, same-served}
+use Rattle.model.proofs.Chain.{here-below, present-below, next-here, linked-here, end-itself, same-served}
 use Rattle.model.proofs.Sound.{Loose}
 use Rattle.model.proofs.RuleH.{settled-next}
 use Rattle.theory.specs.Rules.{Proper, Through, ExecutorsStay, only, nothing, Passed, HandedOver}
@@ -20,7 +20,7 @@ use Rattle.theory.proofs.Passing as T
 use Rattle.theory.proofs.Steps.{properly, executor-none, nobody-serves, after-server, after-resource, task-is, rest-by, same-for, by-rule-h, executor-chosen, executor-same}
 use Rattle.theory.proofs.Readings.{other-for}
 use Rattle.theory.proofs.Lambda.{served-leads}
-use Rattle.laws.proofs.Ends.{leads-last, through-end, apart-end}
+use Rattle.laws.proofs.Ends.{leads-last}
 
 -- a task that awaits a resource waits for it
 awaits-is : (m : Mode) (r : ℕ) → r < places → awaited m ≡ r → m ≡ Waiting r
@@ -74,7 +74,7 @@ module _ (st : State) (t r : ℕ) (some : 0 < resourceAt st r .waiting) (way : W
   e = Unlock (record { 0 = t }) r
 
   abbrev mid : State
-  mid = passed st t r h
+  mid = T.after st t r some way
 
   abbrev after : State
   after = stateAfter st e
@@ -95,7 +95,7 @@ module _ (st : State) (t r : ℕ) (some : 0 < resourceAt st r .waiting) (way : W
   by-wants w v = awaits-is (taskAt st w .mode) r (present-below st r known) (eqb-true _ r (and-right (here st w) _ v))
 
   changed-is : changed st e ≡ mid
-  unfolding unlocked
+  unfolding unlocked passed
   changed-is = rw (ne-eqb (resourceAt st r .waiting) 0 (λ z. omega arith))
 
   after-links : (y : ℕ) → next after y ≡ next mid y
@@ -107,22 +107,7 @@ module _ (st : State) (t r : ℕ) (some : 0 < resourceAt st r .waiting) (way : W
 
   -- "what reached the releaser through this resource goes to the heir,
   through-heir : (k s w : ℕ) → here st s ≡ true → Leads places (next st) k s w → taskAt st w .mode ≡ Waiting r → served after s ≡ h
-  through-heir k s w u l m =
-      after-mid s
-      ∙ served-walk mid s
-      ∙ through-end places (next st) (next mid) h wants (T.heir-wants st t r some way) (T.heir-ends st t r some way)
-      (here-below st h (T.heir-used st t r some way)) (T.link-moved st t r some way) (T.link-others st t r some way)
-      k s w (here-below st s u) l (wants-by w (leads-here st k s w u l) m)
-
-  -- the rest stays"
-  apart-stays : (s : ℕ) → ((k w : ℕ) → Leads places (next st) k s w → taskAt st w .mode ≡ Waiting r → ⊥) → served after s ≡ served st s
-  apart-stays s f =
-      after-mid s
-      ∙ served-walk mid s
-      ∙ apart-end places (next st) (next mid) h wants (T.heir-wants st t r some way) (T.heir-ends st t r some way)
-      (here-below st h (T.heir-used st t r some way)) (T.link-moved st t r some way) (T.link-others st t r some way)
-      places s (λ k w l v. f k w l (by-wants w v))
-      ∙ sym (served-walk st s)
+  through-heir k s w u l m = after-mid s ∙ T.ends-through st t r some way k s w u l (wants-by w (leads-here st k s w u l) m)
 
   -- the entries that are stored
   task-now
@@ -134,7 +119,6 @@ module _ (st : State) (t r : ℕ) (some : 0 < resourceAt st r .waiting) (way : W
   resource-now q = ap (λ z. resourceAt z q) changed-is ∙ T.pass-resource st t r some way q
 
   server-now : (s : ℕ) → serverAt (changed st e) s ≡ serverAt st s
-  unfolding passed
   server-now s = ap (λ z. serverAt z s) changed-is
 
   -- the heir did not execute: the releaser's server takes it where it serves it now
@@ -157,14 +141,11 @@ module _ (st : State) (t r : ℕ) (some : 0 < resourceAt st r .waiting) (way : W
 
   -- the releaser waits for nobody, and serves itself
   releaser-end : served after t ≡ t
-  unfolding Leads
-  releaser-end = apart-stays t free ∙ end-itself st t (T.ended st t r some way)
-    where
-      free : (k w : ℕ) → Leads places (next st) k t w → taskAt st w .mode ≡ Waiting r → ⊥
-      free zero w l m =
-          let z : nobody ≡ r = sym (ap awaited (T.ready st t r some way)) ∙ ap (λ y. awaited (taskAt st y .mode)) l ∙ ap awaited m in
-          omega (arith, present-below st r known)
-      free (suc k) w l m = omega (arith, T.ended st t r some way, l .0)
+  releaser-end =
+      let unwanted : wants t ≡ false =
+      unheld-fails _ (λ y. omega (arith, ap awaited (T.ready st t r some way), eqb-true _ r (and-right (here st t) _ y), present-below st r known)) in
+      let still = T.link-others st t r some way t (λ q. T.apart st t r some way (sym q)) unwanted in
+      after-mid t ∙ end-itself mid t (rw still (T.ended st t r some way))
 
   others-stay : (s : ℕ) → here st s ≡ true → (served st s ≡ t → ⊥) → served after s ≡ served st s
   others-stay s u n =
@@ -183,7 +164,6 @@ module _ (st : State) (t r : ℕ) (some : 0 < resourceAt st r .waiting) (way : W
       through-heir (z .0) s (a .0) u (a .1) (awaits-is (taskAt st (a .0) .mode) r (present-below st r known) same))
       (served-leads st s)
 
-  -- by what leads to a waiter of the resource
   goes-through : (s : ℕ) → here st s ≡ true → Through st r s → served after s ≡ h
   unfolding Leads
   goes-through s u q =
@@ -192,16 +172,16 @@ module _ (st : State) (t r : ℕ) (some : 0 < resourceAt st r .waiting) (way : W
       (λ b. through-heir (suc (b .links)) s (q .waiter) u (b .way) (q .here-waits))
       (q .way)
 
+  -- the rest stays"
   goes-apart : (s : ℕ) → here st s ≡ true → (Through st r s → ⊥) → served after s ≡ served st s
   unfolding Leads
-  goes-apart s u n = apart-stays s (λ k v l m. n (leads-through k v l m))
+  goes-apart s u n = after-mid s ∙ T.ends-apart st t r some way s (λ k v l y. n (leads-through k v l (by-wants v y)))
     where
       leads-through : (k v : ℕ) → Leads places (next st) k s v → taskAt st v .mode ≡ Waiting r → Through st r s
       leads-through zero v l m = record { waiter = v; here-waits = m; way = inl l }
       leads-through (suc k) v l m = record { waiter = v; here-waits = m; way = inr (record { links = k; way = l }) }
 
   passes : Passed st after t r h
-  unfolding passed
   passes = record {
     rest =
         rest-by st e way (st .clock) nothing (λ y. (y ≡ t) ⊎ (y ≡ h)) (only r) (ap (λ z. z .clock) changed-is)

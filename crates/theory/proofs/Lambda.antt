@@ -14,7 +14,7 @@ use Rattle.laws.proofs.Ends.{end-reached}
 
 module _ (n : ℕ) (next : ℕ → ℕ) where
   -- k hops come to x itself, or to where some links lead
-  pub walk-led : (k x : ℕ) → (walk n next k x ≡ x) ⊎ ((m : ℕ) × Leads n next (suc m) x (walk n next k x))
+  walk-led : (k x : ℕ) → (walk n next k x ≡ x) ⊎ ((m : ℕ) × Leads n next (suc m) x (walk n next k x))
   unfolding walk Leads
   walk-led zero x = inl refl
   walk-led (suc k) x =
@@ -33,7 +33,7 @@ module _ (st : State) where
   served-leads k =
       rw (served-walk st k) (⊎-elim (λ e. inl (sym e)) (λ r. inr r) (walk-led places (next st) places k))
 
-  pub leads-served : (m k j : ℕ) → here st k ≡ true → places ≤ next st j → Leads places (next st) m k j → served st k ≡ j
+  leads-served : (m k j : ℕ) → here st k ≡ true → places ≤ next st j → Leads places (next st) m k j → served st k ≡ j
   leads-served m k j u d l = served-walk st k ∙ end-reached places (next st) m k j (here-below st k u) (leads-walk places (next st) m k j l) d
 
   pub lambda

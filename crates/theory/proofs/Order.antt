@@ -210,16 +210,10 @@ module _ (l : Labels) where
       (outcome-same l g s u a good fine e (λ n p. absurd (time-group (ap (kindBy l) (sym p) ∙ k))) (verdict s e)
       (λ p. (rw k (eq-eqb g g refl), grounds s e p, grounds u e (sym q ∙ p))))
 
-  leaves-by
-      : (g h : ℕ) (st : State) (e : Event) → kindBy l e ≡ group h → (h ≡ g → ⊥) → Good l st →
-      (v : Option ℕ) → verdict st e ≡ v → Agree l g st (outcome v st e .state)
-  unfolding verdict
-  leaves-by g h st e k n good none p = after-left l h g st good e k n (grounds st e p)
-  leaves-by g h st e k n good (some m) p = good-self l g st good
-
   leaves : (g h : ℕ) (st : State) (e : Event) → kindBy l e ≡ group h → (h ≡ g → ⊥) → Good l st → Agree l g st (free st e .state)
-  unfolding free verdict
-  leaves g h st e k n good = leaves-by g h st e k n good (verdict st e) refl
+  unfolding free
+  leaves g h st e k n good =
+      outcome-has (Agree l g st) (firstOf (without 8 (tests st e))) st e (good-self l g st good) (λ p. after-left l h g st good e k n (grounds st e p))
 
   free-local : Local (kindBy l) freely (Good l) (Agree l)
   free-local =

@@ -1,7 +1,7 @@
 -- Suspend and wake: the whole set rests, the whole set is Active again. Assumes nothing.
-use Rattle.theory.proofs.Kit.{_≡_, refl, sym, ap, _∙_, Bool, true, false, _||_, inl, ℕ, arith, eqb, eqb-true, eqb-false, eq-eqb, ne-eqb}
+use Rattle.theory.proofs.Kit.{_≡_, refl, sym, ap, _∙_, true, false, _||_, inl, ℕ, arith, eqb, eqb-true, eqb-false, eq-eqb, ne-eqb}
 use Rattle.laws.specs.Tests.{if_then_else_}
-use Rattle.laws.proofs.Cases.{split, holds-fails, unheld-fails}
+use Rattle.laws.proofs.Cases.{split, holds-fails, unheld-fails, unfailed-holds}
 use Rattle.laws.proofs.Lists.{getD-set}
 use Rattle.theory.proofs.Declared.{Phase, Idle, Active, Running, Recharging, Suspended, Ready, Server, Task, State, Event, Wake, Suspend}
 use Rattle.model.specs.State.{noTask, serverAt, taskAt, here, idle, active, running, recharging, served, runningFor}
@@ -11,7 +11,7 @@ use Rattle.model.proofs.Chain.{here-below}
 use Rattle.theory.specs.Rules.{Proper, Rest, ExecutorsStay, TaskIs, only, nothing, Slept, Woken, ExecutesNowhere}
 use Rattle.theory.proofs.Serving.{each-at}
 use Rattle.theory.proofs.Steps.{properly, after-server, task-is, rest-by, ends-stay, same-for, executor-lost, executor-same, executors-stay}
-use Rattle.model.proofs.Variants.{idle-is}
+use Rattle.model.proofs.Variants.{idle-is, recharging-is}
 use Rattle.theory.proofs.Readings.{resting, for-served, off-for, other-for}
 use Rattle.theory.proofs.Executing.{Way}
 
@@ -43,27 +43,16 @@ module _ (st : State) (t s : ℕ) (used : here st s ≡ true) where
   rested-other n =
       split
       (eqb (served st s) t)
-      (λ y.
-      let r : recharging (serverAt st s .phase) ≡ true = held-else (recharging (serverAt st s .phase)) (λ f. n (eqb-true _ t y, f)) in
-      rested-still (resting (serverAt st s .phase) (inl r)))
+      (λ y. rested-still (resting (serverAt st s .phase) (inl (unfailed-holds _ (λ f. n (eqb-true _ t y, f))))))
       (λ m. split (active (serverAt st s .phase) || running (serverAt st s .phase)) (λ y. rw (used, y, m)) rested-still)
-    where
-      held-else : (b : Bool) → (b ≡ false → ⊥) → b ≡ true
-      held-else true f = refl
-      held-else false f = absurd (f refl)
 
   -- so none of the set runs
   pub rested-off : served st s ≡ t → running (restedServer st t s .phase) ≡ false
-  unfolding restedServer rests
   rested-off e =
       split
-      (active (serverAt st s .phase) || running (serverAt st s .phase))
-      (λ y. rw (used, y, eq-eqb _ t e))
-      (λ n. rw (used, n) (neither (active (serverAt st s .phase)) (running (serverAt st s .phase)) n))
-    where
-      neither : (a b : Bool) → (a || b) ≡ false → b ≡ false
-      neither true b h = holds-fails refl h
-      neither false b h = h
+      (recharging (serverAt st s .phase))
+      (λ y. rw (rested-other (λ q. holds-fails y (q .1))) (ap running (recharging-is (serverAt st s .phase) y)))
+      (λ n. rw (rested-set e n))
 
   woken-set : served st s ≡ t → idle (serverAt st s .phase) ≡ true → wokenServer st t s ≡ refilled Active (st .clock) (serverAt st s)
   unfolding wokenServer wakes

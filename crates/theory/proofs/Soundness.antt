@@ -14,7 +14,7 @@ use Rattle.reordering.specs.Run.{after, log, Each, Never}
 use Rattle.theory.proofs.Declared.{TaskNo, State, Event, Wake, Suspend, Dispatch, Preempt, Elapse, Recharge, Lock, Unlock, Table}
 use Rattle.model.specs.State.{places, resourceAt, owned, ownerNo, served, here, runningAt, runningFor, executorOf, executing, executes, next}
 use Rattle.model.specs.Shape.{Shaped}
-use Rattle.model.specs.Events.{locked, unlocked, changed, acting}
+use Rattle.model.specs.Events.{locked, unlocked, changed, acting, passed}
 use Rattle.model.specs.Step.{tests, stateAfter, stepped, move}
 use Rattle.model.specs.Sound.{sound}
 use Rattle.model.specs.Fresh.{freshState}
@@ -48,7 +48,7 @@ lock-calm st t r w =
     rw n (grant-calm st (w .shaped) (loose-calm st (w .facts)) (t .0) r (g .0) (g .1) none-waits (g .2) room n))
 
 unlock-calm : (st : State) (t : TaskNo) (r : ℕ) → Way st (Unlock t r) → Calm (unlocked st (t .0) r)
-unfolding unlocked
+unfolding unlocked passed
 unlock-calm st t r w =
     let g = w .ground in
     split

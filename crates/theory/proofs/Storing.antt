@@ -10,23 +10,20 @@ use Rattle.model.proofs.Chain.{here-below}
 use Rattle.theory.specs.Rules.{Rest, only, nothing}
 use Rattle.theory.proofs.Steps.{Quiet, after-server, rest-by, ends-stay, same-for, executor-same}
 use Rattle.theory.proofs.Executing.{Way}
+use Rattle.laws.specs.Tests.{if_then_else_}
 
 module _ (st : State) (e : Event) (w : Way st e) (s : ℕ) (x : Server) (used : here st s ≡ true) (is : changed st e ≡ withServer s x st) where
   abbrev after : State
   after = stateAfter st e
 
+  stored-at : (i : ℕ) → serverAt (changed st e) i ≡ (if eqb i s then x else serverAt st i)
+  stored-at i = ap (λ z. serverAt z i) is ∙ getD-set (st .server) s i x noServer (omega (arith, w .shaped .servers, here-below st s used))
+
   pub stored-server : serverAt after s ≡ x
-  stored-server =
-      after-server st e s
-      ∙ ap (λ z. serverAt z s) is
-      ∙ getD-set (st .server) s s x noServer (omega (arith, w .shaped .servers, here-below st s used))
-      ∙ rw (eq-eqb s s refl)
+  stored-server = after-server st e s ∙ stored-at s ∙ rw (eq-eqb s s refl)
 
   stored-other : (i : ℕ) → (i ≡ s → ⊥) → serverAt (changed st e) i ≡ serverAt st i
-  stored-other i n =
-      ap (λ z. serverAt z i) is
-      ∙ getD-set (st .server) s i x noServer (omega (arith, w .shaped .servers, here-below st s used))
-      ∙ rw (ne-eqb i s n)
+  stored-other i n = stored-at i ∙ rw (ne-eqb i s n)
 
   pub stored-rest : Rest st after (st .clock) (only s) nothing nothing
   stored-rest = rest-by st e w (st .clock) (only s) nothing nothing (rw is) (λ i u n. stored-other i n) (λ t u n. rw is) (λ r u n. rw is)

@@ -44,10 +44,6 @@ sum-grows (suc n) k p f g h =
     (λ y. rw y (omega (arith, before, rw y at now, mul-add k (countTo n p) 1, mul-one k)))
     (λ m. rw m (omega (arith, before, rw m at now, mul-add k (countTo n p) 0, mul-zero k)))
 
-executing-here : (st : State) (i : ℕ) → executing st i ≡ true → here st i ≡ true
-unfolding executing
-executing-here st i h = and-left (here st i) _ h
-
 executes-here : (st : State) (i : ℕ) → executes st i ≡ true → here st i ≡ true
 unfolding executes runningAt
 executes-here st i h = and-left (here st i) _ (and-left (runningAt st i) _ h)
@@ -132,22 +128,18 @@ module _ (st : State) (s : sound st ≡ true) (e : Event) where
   accounts i u = event-adds st s i u e
 
   did-grows : total next (did next) ≡ total st (did st) + n * countTo places (executing st)
-  did-grows = total-grows st next (did next) (did st) n (executing st) (stepped-here st e) past (λ i u. accounts i u .executed)
-    where
-      past : (i : ℕ) → here st i ≡ false → executing st i ≡ false
-      past i m = unheld-fails _ (λ h. holds-fails (executing-here st i h) m)
+  unfolding executing
+  did-grows = total-grows st next (did next) (did st) n (executing st) (stepped-here st e) (λ i m. rw m) (λ i u. accounts i u .executed)
 
   gave-grows : total next (gave next) ≡ total st (gave st) + n * countTo places (executing st)
   unfolding lentTicks
   gave-grows =
-      total-grows st next (gave next) (gave st) n (executes st) (stepped-here st e) past
+      total-grows st next (gave next) (gave st) n (executes st) (stepped-here st e)
+      (λ i m. unheld-fails _ (λ h. holds-fails (executes-here st i h) m))
       (λ i u.
       let a = accounts i u in
       omega (arith, a .own, a .lent, own-lent (executes st i) (eqb (served st i) i) n))
       ∙ ap (λ k. total st (gave st) + n * k) (executes-count st facts)
-    where
-      past : (i : ℕ) → here st i ≡ false → executes st i ≡ false
-      past i m = unheld-fails _ (λ h. holds-fails (executes-here st i h) m)
 
   -- of one task: as many ticks as servers execute it for
   one-grows : (t : ℕ) → here st t ≡ true → did next t ≡ did st t + n * countTo places (executesIn st t)
