@@ -1,7 +1,10 @@
 -- Uniqueness, of each entry point: what its contract leaves open is nothing. The statements are about the contracts themselves, as the kit reads them
 -- (`Post`): of the arguments, the answer, and the arguments at exit. A function of this table has no `requires`. Assumes nothing.
 use mathlib.Core.Path.{_≡_}
+use mathlib.Core.List.{List}
 use denote.Ref.{now}
+use Rattle.model.specs.declared.State.{State}
+use Rattle.model.specs.declared.Row.{Row}
 use Rattle.step.proofs.step.step.Reads as Step
 use Rattle.soundness.proofs.sound.is_sound.Reads as IsSound
 use Rattle.soundness.proofs.start.fresh.Reads as Fresh
@@ -16,7 +19,7 @@ use Rattle.chain.proofs.servers.executors.Reads as Executors
 use Rattle.chain.proofs.servers.running_for.Reads as RunningFor
 use Rattle.chain.proofs.servers.budgets.Reads as Budgets
 use Rattle.events.proofs.event.refusal.Reads as Refusal
-use Rattle.meter.proofs.rows.fill.Reads as FillRows
+use Rattle.meter.proofs.Metered.{Metering, Meets}
 use Rattle.meter.proofs.row.row_of.Reads as RowOf
 use Rattle.meter.proofs.answer.decided.Reads as Decided
 use Rattle.meter.proofs.answer.rows_written.Reads as RowsWritten
@@ -96,8 +99,9 @@ pub record EachUnique : Type 0 where
   pub running-for : Unique RunningFor.Post
   pub budgets : Unique Budgets.Post
   pub refusal : Unique Refusal.Post
-  -- Meter rows: the rows at exit are the second argument.
-  pub fill-rows : UniqueLent FillRows.Post (λ κ x. now (x .1 .0))
+  -- Meter rows. The kit gives no reading of a contract whose proof is a walk by hand, so that of `fill` is said by the crate (`Meets`).
+  pub fill-rows :
+      (f g : Metering) → Meets f → Meets g → (st : State) (rows : List Row) → (f st rows .0 ≡ g st rows .0) × (f st rows .1 ≡ g st rows .1)
   pub row-of : Unique RowOf.Post
   pub decided : Unique Decided.Post
   pub rows-written : Unique RowsWritten.Post
