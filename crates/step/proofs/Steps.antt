@@ -46,18 +46,26 @@ pub step-unsound : (st : State) (e : Event) (o : Outcome) → sound st ≡ false
 unfolding stepped
 step-unsound st e o n q = met st e o (q ∙ rw n)
 
+pub step-sound : (st : State) (e : Event) (o : Outcome) → sound st ≡ true → o ≡ attempted st e → Met st e o
+unfolding stepped
+step-sound st e o h q = met st e o (q ∙ rw h)
+
 refused-some : (x : Option ℕ) (n : ℕ) → verdict x ≡ verdict.Refused n → x ≡ some n
 refused-some none n h = let z : _≡_ {A = ℕ} 0 1 = cc in absurd (omega arith)
 refused-some (some m) n h = let e : m ≡ n = cc in ap some e
 
-module _ (st : State) (e : Event) (o : Outcome) (v : Verdict) (is : sound st ≡ true) (h : v ≡ verdict (firstOf (tests st e))) where
-  pub step-refused : (n : ℕ) → v ≡ verdict.Refused n → o ≡ record { answer = Refused n; state = st } → Met st e o
-  unfolding stepped attempted
-  step-refused n r q = met st e o (q ∙ ap (λ x. outcome x st e) (sym (refused-some (firstOf (tests st e)) n (sym h ∙ r))) ∙ rw is)
+pub attempt-refused
+    : (st : State) (e : Event) (o : Outcome) (v : Verdict) (n : ℕ)
+    → v ≡ verdict (firstOf (tests st e))
+    → v ≡ verdict.Refused n
+    → o ≡ record { answer = Refused n; state = st }
+    → o ≡ attempted st e
+unfolding attempted
+attempt-refused st e o v n h r q = q ∙ ap (λ x. outcome x st e) (sym (refused-some (firstOf (tests st e)) n (sym h ∙ r)))
 
-  pub step-taken : Clear st e → o ≡ outcome none st e → Met st e o
-  unfolding stepped attempted
-  step-taken c q = met st e o (q ∙ ap (λ x. outcome x st e) (sym (c .unrefused)) ∙ rw is)
+pub attempt-taken : (st : State) (e : Event) (o : Outcome) → Clear st e → o ≡ outcome none st e → o ≡ attempted st e
+unfolding attempted
+attempt-taken st e o c q = q ∙ ap (λ x. outcome x st e) (sym (c .unrefused))
 
 -- the server of rule H's second step
 server-is : (st : State) (t : ℕ) → here st t ≡ true → serverIn (executorsOf st) t ≡ record { 0 = executorOf st t }

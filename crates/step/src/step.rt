@@ -1,7 +1,9 @@
 // `step`: soundness, refusal, the event's own change, rule H, answer; every event goes this one way. Assumes nothing.
 ghost use mathlib.Core.Path.{_≡_};
+ghost use mathlib.Core.Bool.{true};
 ghost use mathlib.Core.Option.{none};
-ghost use Rattle.model.specs.Step.{outcome, stepped};
+ghost use Rattle.model.specs.Sound.{sound};
+ghost use Rattle.model.specs.Step.{outcome, attempted, stepped};
 ghost use Rattle.model.specs.Said.{said};
 ghost use Rattle.events.specs.Verdicts.{Clear};
 use events::Verdict;
@@ -26,7 +28,19 @@ fn taken(st: State, e: Event) -> Outcome
     }
 }
 
-// The answer to an event, and the next state. A refusal hands the given state back as it came.
+// A step on a state that is known to be sound: all but the test for 1. A refusal hands the given state back as it came.
+pub fn attempted(st: State, e: Event) -> Outcome
+    requires { ⌜ sound st ≡ true ⌝ }
+    ensures { λ r. ⌜ r ≡ attempted st e ⌝ }
+{
+    let verdict = events::event::refusal(st, e);
+    match verdict {
+        Verdict::Refused(n) => model::builders::refused(st, n),
+        Verdict::Accepted => taken(st, e),
+    }
+}
+
+// The answer to an event, and the next state. An unsound state is refused and handed back as it came.
 pub fn step(st: State, e: Event) -> Outcome
     ensures { λ r. ⌜ r ≡ stepped st e ⌝ }
     ensures says { λ r. ⌜ said (r .answer) ≡ said (stepped st e .answer) ⌝ }
@@ -34,9 +48,5 @@ pub fn step(st: State, e: Event) -> Outcome
     if !soundness::sound::is_sound(st) {
         return model::builders::refused(st, 1);
     }
-    let verdict = events::event::refusal(st, e);
-    match verdict {
-        Verdict::Refused(n) => model::builders::refused(st, n),
-        Verdict::Accepted => taken(st, e),
-    }
+    attempted(st, e)
 }
