@@ -44,7 +44,7 @@ fn refusal_number(answer: FreshAnswer) -> u16
 fn fresh_answer(table: Table) -> FreshAnswer
     ensures { λ r. ⌜ r ≡ freshOf table .answer ⌝ }
 {
-    let begun = soundness::start::fresh(table);
+    let begun = fresh::start::fresh(table);
     begun.answer
 }
 
@@ -53,7 +53,7 @@ fn fresh_state(table: Table) -> State
     requires { ⌜ freshRefusal table ≡ none ⌝ }
     ensures { λ r. ⌜ r ≡ freshState table ⌝ }
 {
-    let begun = soundness::start::fresh(table);
+    let begun = fresh::start::fresh(table);
     begun.state
 }
 

@@ -5,5 +5,4 @@ pub mod RuleH
 pub mod Room
 pub mod Boxes
 pub mod Variants
-pub mod Fresh
 pub mod Grounds

@@ -18,7 +18,7 @@ use Rattle.model.specs.declared.Entry.{Entry}
 use Rattle.model.specs.declared.Table.{Table}
 use Rattle.model.specs.declared.FreshAnswer.the-variants.{Made, Refused}
 use Rattle.model.specs.declared.FreshOutcome.{FreshOutcome}
-use Rattle.model.specs.State.{places}
+use Rattle.model.specs.State.{places, noServer}
 use Rattle.model.specs.Sound.{countsFit, quotaFits, declaredFits}
 
 abbrev pub noEntry : Entry
@@ -46,7 +46,7 @@ freshRefusal tb = foldTo places (taskRefusal tb) (countsRefusal tb)
 
 -- "numbers in entries past the counts 0, servers there Idle, tasks suspended"
 abbrev pub blankServer : Server
-blankServer = record { phase = Idle; budget = 0; deadline = 0; quota = 0; period = 0; own = 0; lent = 0; spin = 0 }
+blankServer = noServer
 
 abbrev pub blankTask : Task
 blankTask = record { mode = Suspended; runs = Nowhere; declared = 0; depth = 0; executed = 0; held = replicate places 0 }

@@ -1,4 +1,5 @@
 -- What the answers say in document 01's words and numbers. Assumes nothing.
+use mathlib.Core.Bool.{Bool, true, false}
 use Prim.Native.Nat.{ℕ}
 use Rattle.model.specs.declared.Answer.{Answer}
 use Rattle.model.specs.declared.Answer.the-variants.{Ok, Executes, Spins, Granted, Waits, Passed, Freed, Refused}
@@ -18,6 +19,17 @@ said (Waits t) = (waits, t .0)
 said (Passed t) = (passed, t .0)
 said (Freed r) = (freed, r)
 said (Refused n) = (refused, n)
+
+-- an answer that refuses
+abbrev pub isRefused : Answer → Bool
+isRefused (Ok n) = false
+isRefused (Executes t) = false
+isRefused (Spins t) = false
+isRefused (Granted r) = false
+isRefused (Waits t) = false
+isRefused (Passed t) = false
+isRefused (Freed r) = false
+isRefused (Refused n) = true
 
 -- fresh has no word of its own where it makes a state: it is told as `ok` and 0
 abbrev pub saidFresh : FreshAnswer → Word × ℕ

@@ -1,4 +1,5 @@
-// Entries past the counts, and what a refused fresh or a refused read gives back beside its answer: no state of use. Assumes nothing.
+// Entries that are not in use (rule 5.3), and the state of no use that a refused fresh or a refused read gives back beside its answer (rule 5.5).
+// Assumes nothing.
 ghost use mathlib.Core.Path.{_≡_};
 ghost use Rattle.model.specs.Fresh.{blankServer, blankTask, blankResource, unusable};
 use crate::Mode;
@@ -52,7 +53,7 @@ fn blank_resource() -> Resource
     }
 }
 
-// "no processors, no tasks, no resources and the rest as in entries past the counts"
+// No processors, tasks or resources (rule 5.5).
 pub fn unusable_state() -> State
     ensures { λ r. ⌜ r ≡ unusable ⌝ }
 {

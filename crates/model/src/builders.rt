@@ -32,21 +32,19 @@ pub fn with_mode(task: Task, mode: Mode) -> Task
     ensures { λ r. ⌜ r ≡ withMode mode task ⌝ }
 {
     let runs = task.runs;
-    let held = task.held;
-    Task {
-        mode,
-        runs,
-        declared: task.declared,
-        depth: task.depth,
-        executed: task.executed,
-        held,
-    }
+    with_mode_and_runs(task, mode, runs)
 }
 
 pub fn with_runs(task: Task, runs: Runs) -> Task
     ensures { λ r. ⌜ r ≡ withRuns runs task ⌝ }
 {
     let mode = task.mode;
+    with_mode_and_runs(task, mode, runs)
+}
+
+fn with_mode_and_runs(task: Task, mode: Mode, runs: Runs) -> Task
+    ensures { λ r. ⌜ r ≡ withRuns runs (withMode mode task) ⌝ }
+{
     let held = task.held;
     Task {
         mode,

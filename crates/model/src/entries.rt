@@ -1,10 +1,11 @@
-// What an entry of the state says, as specs/State.antt defines it: the tests and numbers that the code above reads off phases, modes and owners.
-// A number that is nobody's is 16. Assumes nothing.
+// What an entry of the state says, as specs/State.antt defines it: the tests and numbers that the crates above read off phases, modes and owners.
+// A number that is nobody's is `NOBODY`. Assumes nothing.
 ghost use mathlib.Core.Path.{_≡_};
 ghost use Rattle.laws.specs.Tests.{bit};
 ghost use mathlib.Core.Bool.{_&&_, _||_};
-ghost use Rattle.model.specs.State.{inUse, inSet, idle, active, running, recharging, suspended, waiting, awaited, owned, ownerNo, placed, placeNo};
+ghost use Rattle.model.specs.State.{inUse, inSet, idle, active, running, recharging, suspended, awaited, owned, ownerNo, placed, placeNo};
 use crate::Mode;
+use crate::NOBODY;
 use crate::Owner;
 use crate::Phase;
 use crate::Runs;
@@ -101,23 +102,13 @@ pub fn is_suspended(m: Mode) -> bool
     }
 }
 
-pub fn is_waiting(m: Mode) -> bool
-    ensures { λ r. ⌜ r ≡ waiting m ⌝ }
-{
-    match m {
-        Mode::Suspended => false,
-        Mode::Ready => false,
-        Mode::Waiting(_) => true,
-    }
-}
-
-// The resource that a task in this mode waits for, or 16.
+// The resource that a task in this mode waits for, or nobody.
 pub fn awaited_no(m: Mode) -> usize
     ensures { λ r. ⌜ r ≡ awaited m ⌝ }
 {
     match m {
-        Mode::Suspended => 16,
-        Mode::Ready => 16,
+        Mode::Suspended => NOBODY as usize,
+        Mode::Ready => NOBODY as usize,
         Mode::Waiting(r) => r as usize,
     }
 }
@@ -135,7 +126,7 @@ pub fn owner_no(o: Owner) -> usize
     ensures { λ r. ⌜ r ≡ ownerNo o ⌝ }
 {
     match o {
-        Owner::Nobody => 16,
+        Owner::Nobody => NOBODY as usize,
         Owner::By(t) => t.0 as usize,
     }
 }
@@ -149,21 +140,12 @@ pub fn is_placed(x: Runs) -> bool
     }
 }
 
-// The server in which the task executes, or 16.
+// The server in which the task executes, or nobody.
 pub fn executor_in(x: Runs) -> ServerNo
     ensures { λ r. ⌜ r ≡ record { 0 = placeNo x } ⌝ }
 {
     match x {
-        Runs::Nowhere => ServerNo(16),
+        Runs::Nowhere => ServerNo(NOBODY),
         Runs::In(s) => s,
-    }
-}
-
-pub fn place_no(x: Runs) -> usize
-    ensures { λ r. ⌜ r ≡ placeNo x ⌝ }
-{
-    match x {
-        Runs::Nowhere => 16,
-        Runs::In(s) => s.0 as usize,
     }
 }

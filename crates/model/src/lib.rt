@@ -1,11 +1,11 @@
-// The types of document 01: numbers, state, events, answers and tables. A state goes in by value and comes back by value.
+// The types of the machine: numbers, state, events, answers and tables. A state goes in by value and comes back by value.
 // Widths are chosen for size (ticks and accounts 32 bits, numbers the 16 bits of a trace's operands); to the specs each is a number.
 // There are sixteen places for tasks, servers and resources; entries past the counts are neither read nor changed.
 
-// The number of a task, the source's tau.
+// The number of a task, the paper's tau.
 pub struct TaskNo(pub u16);
 
-// The number of a server, the source's S.
+// The number of a server, the paper's S.
 pub struct ServerNo(pub u16);
 
 pub enum Phase {
@@ -133,6 +133,16 @@ pub struct Row {
     pub spin: u32,
 }
 
+// A number that is no task's, no server's and no resource's.
+pub const NOBODY: u16 = 16;
+
+// The longest period, and the most ticks that one elapse may count (rules 1.4 and 10.2).
+pub const LONGEST: u32 = 1000000;
+
+// Where the clock stops (rule 1.5).
+pub const CLOCK_LIMIT: u32 = 4000000000;
+
 pub mod blank;
 pub mod builders;
 pub mod entries;
+pub mod limits;

@@ -7,7 +7,7 @@ use Rattle.model.specs.declared.State.{State}
 use Rattle.model.specs.declared.Row.{Row}
 use Rattle.step.proofs.step.step.Reads as Step
 use Rattle.soundness.proofs.sound.is_sound.Reads as IsSound
-use Rattle.soundness.proofs.start.fresh.Reads as Fresh
+use Rattle.fresh.proofs.start.fresh.Reads as Fresh
 use Rattle.settle.proofs.query.executing.Reads as Executing
 use Rattle.chain.proofs.walk.chain_end.Reads as ChainEnd
 use Rattle.chain.proofs.walk.chain_ends.Reads as ChainEnds
@@ -58,12 +58,10 @@ use Rattle.model.proofs.entries.is_active.Reads as IsActive
 use Rattle.model.proofs.entries.is_running.Reads as IsRunning
 use Rattle.model.proofs.entries.is_recharging.Reads as IsRecharging
 use Rattle.model.proofs.entries.is_suspended.Reads as IsSuspended
-use Rattle.model.proofs.entries.is_waiting.Reads as IsWaiting
 use Rattle.model.proofs.entries.awaited_no.Reads as AwaitedNo
 use Rattle.model.proofs.entries.is_owned.Reads as IsOwned
 use Rattle.model.proofs.entries.owner_no.Reads as OwnerNo
 use Rattle.model.proofs.entries.is_placed.Reads as IsPlaced
-use Rattle.model.proofs.entries.place_no.Reads as PlaceNo
 use Rattle.model.proofs.entries.both.Reads as Both
 use Rattle.model.proofs.entries.either.Reads as Either
 use Rattle.model.proofs.entries.one_if.Reads as OneIf
@@ -145,12 +143,10 @@ pub record EachUnique : Type 0 where
   pub is-running : Unique IsRunning.Post
   pub is-recharging : Unique IsRecharging.Post
   pub is-suspended : Unique IsSuspended.Post
-  pub is-waiting : Unique IsWaiting.Post
   pub awaited-no : Unique AwaitedNo.Post
   pub is-owned : Unique IsOwned.Post
   pub owner-no : Unique OwnerNo.Post
   pub is-placed : Unique IsPlaced.Post
-  pub place-no : Unique PlaceNo.Post
   pub both : Unique Both.Post
   pub either : Unique Either.Post
   pub one-if : Unique OneIf.Post

@@ -1,4 +1,3 @@
-pub mod Answers
 pub mod Sums
 pub mod Agree
 pub mod Facts

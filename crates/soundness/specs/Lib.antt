@@ -1,3 +1,2 @@
-pub mod Start
 pub mod Members
 pub mod Groups

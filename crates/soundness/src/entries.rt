@@ -39,7 +39,7 @@ pub fn task_passes(resources: u16, clock: u32, owners: &[usize; 16], t: usize, t
     if executed > clock {
         return false;
     }
-    if !crate::limits::declared_fits(resources, declared) {
+    if !model::limits::declared_fits(resources, declared) {
         return false;
     }
     if !wait_passes(resources, declared, mode) {
@@ -86,7 +86,7 @@ fn server_fits(clock: u32, server: Server) -> bool
     let period = server.period;
     let budget = server.budget;
     let phase = server.phase;
-    if !crate::limits::quota_fits(quota, period) {
+    if !model::limits::quota_fits(quota, period) {
         return false;
     }
     let latest = time + period as u64;

@@ -1,7 +1,5 @@
-// The soundness test of a state, and the fresh state of a table. Both take any input whatever.
+// The soundness test of a state (rules 4.1 to 4.16), which takes any state whatever.
 mod arrays;
 mod entries;
-mod limits;
 mod lists;
 pub mod sound;
-pub mod start;

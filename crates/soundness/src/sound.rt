@@ -14,7 +14,7 @@ fn sizes_fit(processors: u16, tasks: u16, resources: u16, clock: u32) -> bool
     ensures { λ r. ⌜ r ≡ (countsFit processors tasks resources && leb clock clockLimit) ⌝ }
 {
     model::entries::both(
-        crate::limits::counts_fit(processors, tasks, resources),
+        model::limits::counts_fit(processors, tasks, resources),
         clock <= 4000000000,
     )
 }

@@ -28,7 +28,7 @@ use Rattle.model.specs.Groups.{itself, through, groupOf, anyKey, kindOf}
 use Rattle.model.proofs.Grounds.{Grounds, grounds}
 use Rattle.model.proofs.Chain.{here-below}
 use Rattle.model.proofs.Sound.{sound-facts}
-use Rattle.model.proofs.Fresh.{fresh-sound, fresh-shaped}
+use Rattle.fresh.proofs.Fresh.{fresh-sound, fresh-shaped}
 use Rattle.theory.specs.Runs.{refusedBy}
 use Rattle.theory.proofs.Agreement.{Labels, Agree, Homed, here-same, present-same, executing-same, executes-same, served-same, served-home, Good, good-home, agree-sym, agree-trans, Fits, good-self}
 use Rattle.theory.proofs.Locality.{kindBy, lock-label, unlock-label, owned-label, wakes-same, rests-same, after-same, after-left}

@@ -12,9 +12,10 @@ use Rattle.model.specs.Sound.{sound}
 use Rattle.model.specs.RuleH.{settledTask, settled}
 use Rattle.model.specs.Events.{changed, acting}
 use Rattle.model.specs.Step.{tests, answered, stateAfter, outcome, attempted, stepped, free}
+use Rattle.model.specs.Said.{isRefused}
 use Rattle.model.proofs.Grounds.{Grounds, grounds, unrefused-free}
 use Rattle.model.proofs.Sound.{Loose, sound-facts}
-use Rattle.theory.specs.Runs.{refusedBy, refused}
+use Rattle.theory.specs.Runs.{refusedBy}
 use Rattle.theory.proofs.Frames.{heads-here, heads-kept, server-after, task-after, resource-after, server-here, task-here, resource-here}
 
 -- a step on a sound state attempts the event,
@@ -45,7 +46,7 @@ stepped-has P st e before after =
     (λ n. rw (stepped-unsound st e n) before)
 
 -- an accepted event passed every test
-pub goes-none : (x : Option ℕ) (st : State) (e : Event) → refused (outcome x st e .answer) ≡ false → x ≡ none
+pub goes-none : (x : Option ℕ) (st : State) (e : Event) → isRefused (outcome x st e .answer) ≡ false → x ≡ none
 goes-none none st e g = refl
 goes-none (some n) st e g = absurd (true≢false g)
 

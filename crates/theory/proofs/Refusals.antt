@@ -6,8 +6,9 @@ use Rattle.theory.proofs.Declared.{State, Event, Wake, Suspend, Dispatc
 use Rattle.model.specs.declared.Answer.the-variants.{Refused}
 use Rattle.model.specs.Sound.{sound}
 use Rattle.model.specs.Step.{tests, stateAfter, outcome, stepped}
+use Rattle.model.specs.Said.{isRefused}
 use Rattle.model.proofs.Sound.{Loose, sound-facts}
-use Rattle.theory.specs.Runs.{refusedBy, refused, numbers, Among}
+use Rattle.theory.specs.Runs.{refusedBy, numbers, Among}
 use Rattle.model.proofs.Grounds.{Grounds, grounds, unrefused-free}
 use Rattle.theory.proofs.Outcomes.{stepped-sound, answered-not, goes-none}
 
@@ -34,7 +35,7 @@ unfolding stepped
 refused-same st e n h = ⊎-elim (λ f. rw (f .0)) (λ r. rw (stepped-sound st e (r .0), r .1)) (refused-why st e n h)
 
 -- an accepted event has its grounds, and the state after it is the one after the change and rule H
-module _ (st : State) (e : Event) (s : sound st ≡ true) (goes : refused (stepped st e .answer) ≡ false) where
+module _ (st : State) (e : Event) (s : sound st ≡ true) (goes : isRefused (stepped st e .answer) ≡ false) where
   unrefused : firstOf (tests st e) ≡ none
   unrefused = goes-none (firstOf (tests st e)) st e (rw (stepped-sound st e s) at goes)
 

@@ -23,7 +23,7 @@ use Rattle.model.proofs.Sound.{Loose, Sound, sound-facts}
 use Rattle.model.proofs.Room.{stack-room, stack-held, loose-stacks}
 use Rattle.model.proofs.Grounds.{Grounds, grounds, unrefused-free}
 use Rattle.model.proofs.RuleH.{serving-below}
-use Rattle.model.proofs.Fresh.{fresh-sound, fresh-shaped}
+use Rattle.fresh.proofs.Fresh.{fresh-sound, fresh-shaped}
 use Rattle.theory.specs.Runs.{Accepted, reached, refusedBy, executesIn, Holds, answers}
 use Rattle.theory.proofs.Frames.{settled-shaped, changed-shaped}
 use Rattle.theory.proofs.Calm.{Calm, loose-calm, settled-loose}

@@ -21,7 +21,7 @@ use Rattle.model.proofs.Sound.{Loose, sound-facts}
 use Rattle.model.proofs.RuleH.{serving-here}
 use Rattle.theory.specs.Runs.{Accepted, reached, executesIn, lasts, ticks, ticksFor, total}
 use Rattle.theory.specs.Rules.{Accounts}
-use Rattle.model.proofs.Fresh.{fresh-sound, fresh-shaped}
+use Rattle.fresh.proofs.Fresh.{fresh-sound, fresh-shaped}
 use Rattle.theory.proofs.Soundness.{kept, executes-for, servers-count, servers-that-execute}
 use Rattle.theory.proofs.Accounts.{event-adds}
 use Rattle.theory.proofs.Unread.{stepped-here}

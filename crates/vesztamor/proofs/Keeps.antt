@@ -15,7 +15,7 @@ use Rattle.model.specs.declared.FreshAnswer.{FreshAnswer}
 use Rattle.model.specs.declared.FreshAnswer.the-variants as fresh
 use Rattle.model.specs.declared.Outcome.{Outcome}
 use Rattle.model.specs.declared.State.{State}
-use Rattle.model.specs.Said.{ok, refused, said}
+use Rattle.model.specs.Said.{ok, refused, said, isRefused}
 use Rattle.model.specs.Fresh.{freshOf}
 use Rattle.model.specs.Step.{stepped}
 use Rattle.bound.specs.declared.Bounded.{Bounded}
@@ -26,7 +26,7 @@ use Rattle.image.specs.Layout.{imageSize}
 use Rattle.image.specs.Decoded.{decoded}
 use Rattle.vesztamor.specs.Tables.{isTable, tableIn, isSections, sectionsIn}
 use Rattle.trace.specs.Reading.{isEvent, eventOf}
-use Rattle.vesztamor.specs.Exported.{Exported, freshLeft, freshExport, isRefused, stepLeft, stepBy, stepExport, boundSize, boundLeft, boundExport, replayExport}
+use Rattle.vesztamor.specs.Exported.{Exported, freshLeft, freshExport, stepLeft, stepBy, stepExport, boundSize, boundLeft, boundExport, replayExport}
 
 abbrev pub Keeps : List ℕ → Exported → Type 0
 Keeps bytes x = x .answer .0 ≡ refused → x .bytes ≡ bytes

@@ -12,7 +12,7 @@ use Rattle.model.specs.declared.Outcome.{Outcome}
 use Rattle.model.specs.declared.State.{State}
 use Rattle.model.specs.Fresh.{freshOf}
 use Rattle.model.specs.Step.{stepped}
-use Rattle.model.specs.Said.{Word, ok, refused, said}
+use Rattle.model.specs.Said.{Word, ok, refused, said, isRefused}
 use Rattle.bound.specs.declared.Bounded.{Bounded}
 use Rattle.bound.specs.declared.Bounded.the-variants as bounded
 use Rattle.bound.specs.Answer.{answer}
@@ -25,7 +25,7 @@ use Rattle.image.specs.Decoded.{decoded}
 use Rattle.vesztamor.specs.Packed.{packed}
 use Rattle.vesztamor.specs.Tables.{isTable, tableIn, isSections, sectionsIn}
 use Rattle.trace.specs.Reading.{isEvent, eventOf}
-use Rattle.vesztamor.specs.Exported.{Exported, refusal, freshExport, boundSize, boundBytes, boundExport, isRefused, stepExport, replayExport}
+use Rattle.vesztamor.specs.Exported.{Exported, refusal, freshExport, boundSize, boundBytes, boundExport, stepExport, replayExport}
 
 -- the two clauses of a contract, from what is exported
 pub both

@@ -1,5 +1,4 @@
 -- What each exported function answers, and what it leaves of the bytes lent to it. A refusal leaves them as they were. Assumes nothing.
-use mathlib.Core.Bool.{Bool, true, false}
 use mathlib.Core.List.{List, _++_}
 use mathlib.Core.Option.{Option, none, some}
 use Prim.Native.Nat.{ℕ, _/_, _%_, _^_}
@@ -7,8 +6,6 @@ use lib.Dec.{eqb}
 use lib.ListN.{length}
 use Rattle.laws.specs.Tests.{if_then_else_}
 use Rattle.bytes.specs.Numbers.{four}
-use Rattle.model.specs.declared.Answer.{Answer}
-use Rattle.model.specs.declared.Answer.the-variants.{Ok, Executes, Spins, Granted, Waits, Passed, Freed, Refused}
 use Rattle.model.specs.declared.FreshAnswer.{FreshAnswer}
 use Rattle.model.specs.declared.FreshAnswer.the-variants as fresh
 use Rattle.model.specs.declared.Outcome.{Outcome}
@@ -16,7 +13,7 @@ use Rattle.model.specs.declared.State.{State}
 use Rattle.model.specs.Sound.{sound}
 use Rattle.model.specs.Step.{stepped}
 use Rattle.model.specs.Fresh.{freshOf}
-use Rattle.model.specs.Said.{Word, ok, refused, said}
+use Rattle.model.specs.Said.{Word, ok, refused, said, isRefused}
 use Rattle.settle.specs.Doing.{doing, saidDoing}
 use Rattle.bound.specs.declared.Bounded.{Bounded}
 use Rattle.bound.specs.declared.Bounded.the-variants as bounded
@@ -66,16 +63,6 @@ executingSaid (some st) s = doingTold (saidDoing (doing st s))
 
 unfoldable pub executingExport : List ℕ → ℕ → Word × ℕ
 executingExport bytes s = executingSaid (decoded bytes) s
-
-abbrev pub isRefused : Answer → Bool
-isRefused (Ok n) = false
-isRefused (Executes t) = false
-isRefused (Spins t) = false
-isRefused (Granted r) = false
-isRefused (Waits t) = false
-isRefused (Passed t) = false
-isRefused (Freed r) = false
-isRefused (Refused n) = true
 
 abbrev pub stepLeft : Outcome → List ℕ → Exported
 stepLeft o bytes = record { answer = said (o .answer); bytes = if isRefused (o .answer) then bytes else encoded (o .state) }

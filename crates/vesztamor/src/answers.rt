@@ -1,9 +1,9 @@
 // Answers as one number: the word's number times 2 ^ 32, and the number. Assumes nothing.
 ghost use mathlib.Core.Path.{_≡_};
-ghost use Rattle.model.specs.Said.{refused, said};
+ghost use Rattle.model.specs.Said.{refused, said, isRefused};
 ghost use Rattle.settle.specs.Doing.{saidDoing};
 ghost use Rattle.vesztamor.specs.Packed.{packed};
-ghost use Rattle.vesztamor.specs.Exported.{doingTold, isRefused};
+ghost use Rattle.vesztamor.specs.Exported.{doingTold};
 use model::Answer;
 use settle::Doing;
 

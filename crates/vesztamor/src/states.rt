@@ -24,7 +24,7 @@ pub extern "C" fn vesztamor_fresh(table: &[u8], state: &mut [u8]) -> u64
     if !is_table(table) {
         return refusal(19);
     }
-    let made = soundness::start::fresh(table_in(table));
+    let made = fresh::start::fresh(table_in(table));
     let answer = made.answer;
     let fresh = made.state;
     match answer {

@@ -1,9 +1,9 @@
--- `soundness::start::fresh` meets its contract. Assumes nothing.
+-- `fresh::start::fresh` meets its contract. Assumes nothing.
 use mathlib.Core.Path.{sym, _∙_}
 use borrow.Author.Needs.{needs}
-use Rattle.soundness.proofs.Answers.{fresh-made, fresh-refused}
-use Rattle.soundness.proofs.start.fresh.Statement.{statement}
-use Rattle.soundness.proofs.start.fresh.Tie as tie
+use Rattle.fresh.proofs.Answers.{fresh-made, fresh-refused}
+use Rattle.fresh.proofs.start.fresh.Statement.{statement}
+use Rattle.fresh.proofs.start.fresh.Tie as tie
 
 pub fresh-spec : {M : Type 1} → statement M
 fresh-spec =

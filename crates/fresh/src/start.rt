@@ -1,9 +1,9 @@
-// The fresh state of a table: document 01, "Fresh", and refusals 19 to 21 in its order. Rows past the table's tasks are not read. Assumes nothing.
+// The fresh state of a table and its refusals 19 to 21, in the order of rule 5.4. Lines past the table's tasks are not read. Assumes nothing.
 ghost use mathlib.Core.Path.{_≡_};
 ghost use Prim.Native.Nat.{_≤_};
 ghost use Rattle.model.specs.Fresh.{entryRefusal, freshRefusal, freshServer, freshTask, freshState, freshOf};
 ghost use Rattle.model.specs.Said.{saidFresh};
-ghost use Rattle.soundness.specs.Start.{answerOf, firstAnswer, freshSays};
+ghost use Rattle.fresh.specs.Start.{answerOf, firstAnswer, freshSays};
 use model::Entry;
 use model::FreshAnswer;
 use model::FreshOutcome;
@@ -15,7 +15,7 @@ use model::State;
 use model::Table;
 use model::Task;
 
-// "servers Idle with budget Q and deadline 0, .. and accounts 0"
+// A server in use (rule 5.2).
 fn fresh_server(entry: Entry) -> Server
     ensures { λ r. ⌜ r ≡ freshServer entry ⌝ }
 {
@@ -31,7 +31,7 @@ fn fresh_server(entry: Entry) -> Server
     }
 }
 
-// "all tasks suspended"
+// A task in use (rule 5.2).
 fn fresh_task(entry: Entry) -> Task
     ensures { λ r. ⌜ r ≡ freshTask entry ⌝ }
 {
@@ -73,15 +73,15 @@ fn fresh_state(tb: Table) -> State
     }
 }
 
-// "20, 21 .. Q or P; declared resource absent", "20 before 21"
+// One line of the table: 20 before 21.
 fn entry_answer(resources: u16, entry: Entry) -> FreshAnswer
     requires { ⌜ resources ≤ 16 ⌝ }
     ensures { λ r. ⌜ r ≡ answerOf (entryRefusal resources entry) ⌝ }
 {
-    if !crate::limits::quota_fits(entry.quota, entry.period) {
+    if !model::limits::quota_fits(entry.quota, entry.period) {
         return FreshAnswer::Refused(20);
     }
-    if !crate::limits::declared_fits(resources, entry.declared) {
+    if !model::limits::declared_fits(resources, entry.declared) {
         return FreshAnswer::Refused(21);
     }
     FreshAnswer::Made
@@ -96,12 +96,12 @@ fn first_answer(earlier: FreshAnswer, later: FreshAnswer) -> FreshAnswer
     }
 }
 
-// "For fresh, 19, then tasks in order"
+// The counts first, then task by task.
 fn table_answer(tb: Table) -> FreshAnswer
     ensures { λ r. ⌜ r ≡ answerOf (freshRefusal tb) ⌝ }
 {
     let resources = tb.resources;
-    if !crate::limits::counts_fit(tb.processors, tb.tasks, resources) {
+    if !model::limits::counts_fit(tb.processors, tb.tasks, resources) {
         return FreshAnswer::Refused(19);
     }
     let count = tb.tasks as usize;
@@ -115,7 +115,7 @@ fn table_answer(tb: Table) -> FreshAnswer
     answer
 }
 
-// The fresh state of a table, or the number of its refusal and no state of use.
+// The fresh state of a table, or the number of its refusal and the state of no use (rule 5.5).
 pub fn fresh(tb: Table) -> FreshOutcome
     ensures { λ r. ⌜ (r ≡ freshOf tb) × (saidFresh (r .answer) ≡ freshSays (freshRefusal tb)) ⌝ }
 {

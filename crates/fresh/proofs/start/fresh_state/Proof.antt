@@ -1,4 +1,4 @@
--- `soundness::start::fresh_state` meets its contract. Assumes nothing.
+-- `fresh::start::fresh_state` meets its contract. Assumes nothing.
 use mathlib.Core.Path.{_≡_, sym, ap, _∙_}
 use mathlib.Core.Logic.{⊎-elim}
 use Prim.Native.Nat.{_≤_, _-_}
@@ -12,8 +12,8 @@ use Rattle.laws.proofs.Lists.{replicate-at}
 use Rattle.laws.proofs.Set.{set-none, set-more, set-skip, set-done}
 use Rattle.model.specs.State.{places}
 use Rattle.model.specs.Fresh.{blankServer, blankTask, freshServerAt, freshTaskAt, freshState}
-use Rattle.soundness.proofs.start.fresh_state.Statement.{statement}
-use Rattle.soundness.proofs.start.fresh_state.Tie as tie
+use Rattle.fresh.proofs.start.fresh_state.Statement.{statement}
+use Rattle.fresh.proofs.start.fresh_state.Tie as tie
 
 pub fresh-state-spec : {M : Type 1} → statement M
 unfolding freshServerAt freshTaskAt freshState

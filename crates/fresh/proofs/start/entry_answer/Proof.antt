@@ -1,11 +1,11 @@
--- `soundness::start::entry_answer` meets its contract. Assumes nothing.
+-- `fresh::start::entry_answer` meets its contract. Assumes nothing.
 use mathlib.Core.Path.{sym, _∙_}
 use borrow.Author.Needs.{needs}
 use borrow.Author.Tests.{not-true, not-false}
 use Rattle.laws.specs.Tests.{firstOf}
 use Rattle.model.specs.Fresh.{entryRefusal}
-use Rattle.soundness.proofs.start.entry_answer.Statement.{statement}
-use Rattle.soundness.proofs.start.entry_answer.Tie as tie
+use Rattle.fresh.proofs.start.entry_answer.Statement.{statement}
+use Rattle.fresh.proofs.start.entry_answer.Tie as tie
 
 pub entry-answer-spec : {M : Type 1} → statement M
 unfolding entryRefusal firstOf

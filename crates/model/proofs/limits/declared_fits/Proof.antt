@@ -1,4 +1,4 @@
--- `soundness::limits::declared_fits` meets its contract: nothing is left of the set above the resources' bits. Assumes nothing.
+-- `model::limits::declared_fits` meets its contract: nothing is left of the set above the resources' bits. Assumes nothing.
 use mathlib.Core.Path.{_≡_, sym, _∙_}
 use Prim.Native.Nat.{ℕ, zero, _/_, _<_}
 use native.Mathlib.Nat.{div-eq-of-lt, div-lt-iff-lt-mul, one-mul}
@@ -8,8 +8,8 @@ use lib.Dec.{eqb, ltb}
 use borrow.Author.Needs.{needs}
 use borrow.Author.Tests.{ltb-true, ltb-false, eq-eqb, ne-eqb}
 use Rattle.laws.proofs.Cases.{split}
-use Rattle.soundness.proofs.limits.declared_fits.Statement.{statement}
-use Rattle.soundness.proofs.limits.declared_fits.Tie as tie
+use Rattle.model.proofs.limits.declared_fits.Statement.{statement}
+use Rattle.model.proofs.limits.declared_fits.Tie as tie
 
 none-left : (d k : ℕ) → 0 < k → eqb (d / k) 0 ≡ ltb d k
 none-left d k p =

@@ -1,4 +1,4 @@
--- What fresh answers, from the number of its refusal if it has one. Assumes nothing.
+-- What fresh answers, from the number of its refusal if it has one (rules 5.4 and 5.5). Assumes nothing.
 use mathlib.Core.Option.{Option, none, some}
 use Prim.Native.Nat.{ℕ}
 use Rattle.model.specs.declared.FreshAnswer.{FreshAnswer}
@@ -14,7 +14,7 @@ abbrev pub firstAnswer : FreshAnswer → FreshAnswer → FreshAnswer
 firstAnswer Made later = later
 firstAnswer (Refused n) later = Refused n
 
--- in document 01's words
+-- as a word and a number
 abbrev pub freshSays : Option ℕ → Word × ℕ
 freshSays none = (ok, 0)
 freshSays (some n) = (refused, n)

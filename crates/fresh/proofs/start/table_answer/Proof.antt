@@ -1,14 +1,14 @@
--- `soundness::start::table_answer` meets its contract. Assumes nothing.
+-- `fresh::start::table_answer` meets its contract. Assumes nothing.
 use mathlib.Core.Path.{_≡_, sym, ap, _∙_}
 use mathlib.Core.Logic.{⊎-elim}
 use Prim.Native.Nat.{_≤_, _-_}
 use borrow.Author.Needs.{needs}
 use borrow.Author.Tests.{not-true, not-false}
 use native.Mathlib.Omega.{arith}
-use Rattle.soundness.specs.Start.{answerOf}
-use Rattle.soundness.proofs.Answers.{refusalTo, answer-none, answer-more, answer-skip, answer-done, counts-refused, counts-resources}
-use Rattle.soundness.proofs.start.table_answer.Statement.{statement}
-use Rattle.soundness.proofs.start.table_answer.Tie as tie
+use Rattle.fresh.specs.Start.{answerOf}
+use Rattle.fresh.proofs.Answers.{refusalTo, answer-none, answer-more, answer-skip, answer-done, counts-refused, counts-resources}
+use Rattle.fresh.proofs.start.table_answer.Statement.{statement}
+use Rattle.fresh.proofs.start.table_answer.Tie as tie
 
 pub table-answer-spec : {M : Type 1} → statement M
 table-answer-spec =

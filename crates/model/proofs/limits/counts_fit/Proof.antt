@@ -1,7 +1,7 @@
--- `soundness::limits::counts_fit` meets its contract. Assumes nothing.
+-- `model::limits::counts_fit` meets its contract. Assumes nothing.
 use borrow.Author.Tests.{le-leb, lt-leb}
-use Rattle.soundness.proofs.limits.counts_fit.Statement.{statement}
-use Rattle.soundness.proofs.limits.counts_fit.Tie as tie
+use Rattle.model.proofs.limits.counts_fit.Statement.{statement}
+use Rattle.model.proofs.limits.counts_fit.Tie as tie
 
 pub counts-fit-spec : {M : Type 1} → statement M
 counts-fit-spec =

@@ -1,9 +1,10 @@
-// The ranges of document 01, "Sizes", which a table and a state share. Assumes nothing.
+// The limits of counts, quotas, periods and declared sets, which a table and a state share (rules 1.1 to 1.6). Assumes nothing.
 ghost use mathlib.Core.Path.{_≡_};
 ghost use Prim.Native.Nat.{_≤_};
 ghost use Rattle.model.specs.Sound.{countsFit, quotaFits, declaredFits};
+use crate::LONGEST;
 
-// "Processors 1 to 8. Tasks 1 to 16 .. Resources 0 to 16."
+// Rules 1.1 to 1.3.
 pub fn counts_fit(processors: u16, tasks: u16, resources: u16) -> bool
     ensures { λ r. ⌜ r ≡ countsFit processors tasks resources ⌝ }
 {
@@ -22,7 +23,7 @@ pub fn counts_fit(processors: u16, tasks: u16, resources: u16) -> bool
     resources <= 16
 }
 
-// "1 ≤ Q ≤ P ≤ 1,000,000"
+// Rule 1.4.
 pub fn quota_fits(quota: u32, period: u32) -> bool
     ensures { λ r. ⌜ r ≡ quotaFits quota period ⌝ }
 {
@@ -32,10 +33,10 @@ pub fn quota_fits(quota: u32, period: u32) -> bool
     if quota > period {
         return false;
     }
-    period <= 1000000
+    period <= LONGEST
 }
 
-// A declared set has bits of the resources only.
+// A declared set has bits of the resources only (rule 4.2).
 pub fn declared_fits(resources: u16, declared: u16) -> bool
     requires { ⌜ resources ≤ 16 ⌝ }
     ensures { λ r. ⌜ r ≡ declaredFits resources declared ⌝ }

@@ -1,7 +1,7 @@
--- `soundness::limits::quota_fits` meets its contract. Assumes nothing.
+-- `model::limits::quota_fits` meets its contract. Assumes nothing.
 use borrow.Author.Tests.{le-leb, lt-leb}
-use Rattle.soundness.proofs.limits.quota_fits.Statement.{statement}
-use Rattle.soundness.proofs.limits.quota_fits.Tie as tie
+use Rattle.model.proofs.limits.quota_fits.Statement.{statement}
+use Rattle.model.proofs.limits.quota_fits.Tie as tie
 
 pub quota-fits-spec : {M : Type 1} → statement M
 quota-fits-spec =

@@ -1,7 +1,7 @@
--- `soundness::start::first_answer` meets its contract. Assumes nothing.
+-- `fresh::start::first_answer` meets its contract. Assumes nothing.
 use borrow.Author.Needs.{needs}
-use Rattle.soundness.proofs.start.first_answer.Statement.{statement}
-use Rattle.soundness.proofs.start.first_answer.Tie as tie
+use Rattle.fresh.proofs.start.first_answer.Statement.{statement}
+use Rattle.fresh.proofs.start.first_answer.Tie as tie
 
 pub first-answer-spec : {M : Type 1} → statement M
 first-answer-spec =

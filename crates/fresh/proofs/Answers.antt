@@ -20,7 +20,7 @@ use Rattle.model.specs.declared.FreshAnswer.the-variants.{Made, Refused}
 use Rattle.model.specs.Sound.{countsFit, quotaFits, declaredFits}
 use Rattle.model.specs.Fresh.{entryAt, countsRefusal, entryRefusal, taskRefusal, freshRefusal, freshState, unusable, freshOf}
 use Rattle.model.specs.Said.{saidFresh}
-use Rattle.soundness.specs.Start.{answerOf, firstAnswer, freshSays}
+use Rattle.fresh.specs.Start.{answerOf, firstAnswer, freshSays}
 
 first-or : (x y : Option ℕ) → firstAnswer (answerOf x) (answerOf y) ≡ answerOf (x orElse y)
 first-or none y = refl

@@ -1,7 +1,0 @@
--- `soundness::start::fresh_server` meets its contract. Assumes nothing.
-use borrow.Author.Needs.{needs}
-use Rattle.soundness.proofs.start.fresh_server.Statement.{statement}
-use Rattle.soundness.proofs.start.fresh_server.Tie as tie
-
-pub fresh-server-spec : {M : Type 1} → statement M
-fresh-server-spec = tie.close (tie.spec (λ c. search needs))
