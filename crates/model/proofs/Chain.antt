@@ -1,5 +1,5 @@
 -- Laws of chains: links stay among the numbers in use, the chain end is where the links lead, and the sixteen tasks of its fuel never cut it:
--- that no chain closes is decided by the test, and there the chain end is what document 01 says (`end-is`). Assumes nothing.
+-- that no chain closes is decided by the test, and there the chain end is that of rule 3.2 (`end-is`). Assumes nothing.
 use mathlib.Core.Path.{_≡_, refl, sym, _∙_}
 use mathlib.Core.Bool.{true, false, _&&_}
 use Prim.Native.Nat.{ℕ, zero, suc, _<_, _≤_}

@@ -1,5 +1,5 @@
--- What each event changes, before rule H: document 01, "Events" and the accounts. A new entry is a function of its number and of the state before,
--- so that entries past the counts stay as they are. A place of a stack or queue that is given up is set to 0. Assumes nothing.
+-- What each event changes, before rule H: rules 7.1 to 7.10, and the accounts of rule 8.1. A new entry is a function of its number and of the state
+-- before, so that entries not in use stay as they are (rule 1.7). Assumes nothing.
 use mathlib.Core.Bool.{Bool, not, _&&_, _||_}
 use mathlib.Core.List.{List}
 use Prim.Native.Nat.{ℕ, _+_, _-_}
@@ -20,7 +20,7 @@ use Rattle.model.specs.declared.Resource.{Resource}
 use Rattle.model.specs.declared.State.{State}
 use Rattle.model.specs.declared.Event.{Event}
 use Rattle.model.specs.declared.Event.the-variants.{Wake, Suspend, Dispatch, Preempt, Elapse, Recharge, Lock, Unlock}
-use Rattle.model.specs.State.{places, nobody, serverAt, taskAt, resourceAt, here, idle, active, running, suspended, owned, served, runningAt, executorOf, executing, executes}
+use Rattle.model.specs.State.{TaskNumber, ServerNumber, ResourceNumber, places, nobody, serverAt, taskAt, resourceAt, here, idle, active, running, suspended, owned, served, runningAt, executorOf, executing, executes}
 use Rattle.model.specs.RuleH.{withTasks}
 
 abbrev pub withServers : List Server → State → State
@@ -32,75 +32,75 @@ withResources rs st = record { processors = st .processors; tasks = st .tasks; r
 abbrev pub withClock : ℕ → State → State
 withClock n st = record { processors = st .processors; tasks = st .tasks; resources = st .resources; clock = n; server = st .server; task = st .task; resource = st .resource }
 
-abbrev pub withServer : ℕ → Server → State → State
+abbrev pub withServer : ServerNumber → Server → State → State
 withServer s x st = withServers (set (st .server) s x) st
 
-abbrev pub withTask : ℕ → Task → State → State
+abbrev pub withTask : TaskNumber → Task → State → State
 withTask t x st = withTasks (set (st .task) t x) st
 
-abbrev pub withResource : ℕ → Resource → State → State
+abbrev pub withResource : ResourceNumber → Resource → State → State
 withResource r x st = withResources (set (st .resource) r x) st
 
 abbrev pub withPhase : Phase → Server → Server
 withPhase p s = record { phase = p; budget = s .budget; deadline = s .deadline; quota = s .quota; period = s .period; own = s .own; lent = s .lent; spin = s .spin }
 
--- "with budget Q and deadline clock + P"
+-- rules 7.1, 7.6: a full budget, and the deadline one period from now
 abbrev pub refilled : Phase → ℕ → Server → Server
 refilled p clock s = record { phase = p; budget = s .quota; deadline = clock + s .period; quota = s .quota; period = s .period; own = s .own; lent = s .lent; spin = s .spin }
 
 abbrev pub withMode : Mode → Task → Task
 withMode m k = record { mode = m; runs = k .runs; declared = k .declared; depth = k .depth; executed = k .executed; held = k .held }
 
--- each server in use replaced by what f makes of its number
-unfoldable pub serverBy : State → (ℕ → Server) → ℕ → Server
+-- rule 1.7: each server in use replaced by what f makes of its number
+unfoldable pub serverBy : State → (ServerNumber → Server) → ServerNumber → Server
 serverBy st f s = if here st s then f s else serverAt st s
 
-unfoldable pub eachServer : State → (ℕ → Server) → State
+unfoldable pub eachServer : State → (ServerNumber → Server) → State
 eachServer st f = withServers (setTo places (serverBy st f) (st .server)) st
 
--- Wake t: "a suspended task becomes ready. Every Idle server serving it becomes Active with budget Q and deadline clock + P."
-unfoldable pub wakes : State → ℕ → ℕ → Bool
+-- rule 7.1, wake t: the Idle servers that serve t become Active, filled anew, and t is ready
+unfoldable pub wakes : State → TaskNumber → ServerNumber → Bool
 wakes st t s = here st s && idle (serverAt st s .phase) && eqb (served st s) t
 
-unfoldable pub wokenServer : State → ℕ → ℕ → Server
+unfoldable pub wokenServer : State → TaskNumber → ServerNumber → Server
 wokenServer st t s = if wakes st t s then refilled Active (st .clock) (serverAt st s) else serverAt st s
 
-unfoldable pub woken : State → ℕ → State
+unfoldable pub woken : State → TaskNumber → State
 woken st t = withTask t (withMode Ready (taskAt st t)) (eachServer st (wokenServer st t))
 
--- "Active and Running servers serving it become Idle." (budget and deadline stay)
-unfoldable pub rests : State → ℕ → ℕ → Bool
+-- rules 7.2, 7.8: the Active and Running servers that serve t become Idle and keep budget and deadline
+unfoldable pub rests : State → TaskNumber → ServerNumber → Bool
 rests st t s = here st s && (active (serverAt st s .phase) || running (serverAt st s .phase)) && eqb (served st s) t
 
-unfoldable pub restedServer : State → ℕ → ℕ → Server
+unfoldable pub restedServer : State → TaskNumber → ServerNumber → Server
 restedServer st t s = if rests st t s then withPhase Idle (serverAt st s) else serverAt st s
 
-unfoldable pub rested : State → ℕ → State
+unfoldable pub rested : State → TaskNumber → State
 rested st t = eachServer st (restedServer st t)
 
--- Suspend t: "an executing task is suspended."
-unfoldable pub slept : State → ℕ → State
+-- rule 7.2, suspend t
+unfoldable pub slept : State → TaskNumber → State
 slept st t = withTask t (withMode Suspended (taskAt st t)) (rested st t)
 
--- Dispatch s: "Active to Running." Preempt s: "Running to Active."
-unfoldable pub phased : Phase → State → ℕ → State
+-- rules 7.3, 7.4, dispatch s and preempt s: the phase alone
+unfoldable pub phased : Phase → State → ServerNumber → State
 phased p st s = withServer s (withPhase p (serverAt st s)) st
 
--- Accounts: "per server, ticks executing its own task, executing another (lent), and spinning", by who executes when the elapse begins
-unfoldable pub ownTicks : State → ℕ → ℕ → ℕ
+-- rule 8.1: what n ticks add to a server's accounts, by what it does when they begin: the task of its own number, another task, or spinning
+unfoldable pub ownTicks : State → ℕ → ServerNumber → ℕ
 ownTicks st n s = if executes st s && eqb (served st s) s then n else 0
 
-unfoldable pub lentTicks : State → ℕ → ℕ → ℕ
+unfoldable pub lentTicks : State → ℕ → ServerNumber → ℕ
 lentTicks st n s = if executes st s && not (eqb (served st s) s) then n else 0
 
-unfoldable pub spinTicks : State → ℕ → ℕ → ℕ
+unfoldable pub spinTicks : State → ℕ → ServerNumber → ℕ
 spinTicks st n s = if runningAt st s && not (executes st s) then n else 0
 
--- Elapse n: "the clock and every Running server's spending advance by n. All servers reaching 0 become Recharging together"
-unfoldable pub runsOut : State → ℕ → ℕ → Bool
+-- rule 7.5, elapse n: the Running servers spend n, and those with nothing left become Recharging, all at once
+unfoldable pub runsOut : State → ℕ → ServerNumber → Bool
 runsOut st n s = runningAt st s && eqb (serverAt st s .budget) n
 
-unfoldable pub spentServer : State → ℕ → ℕ → Server
+unfoldable pub spentServer : State → ℕ → ServerNumber → Server
 spentServer st n s = record {
   phase = if runsOut st n s then Recharging else serverAt st s .phase;
   budget = if runningAt st s then serverAt st s .budget - n else serverAt st s .budget;
@@ -112,8 +112,8 @@ spentServer st n s = record {
   spin = serverAt st s .spin + spinTicks st n s;
 }
 
--- "per task, ticks executed"
-unfoldable pub tickedTask : State → ℕ → ℕ → Task
+-- rule 8.1: n ticks executed by a task that executes when they begin
+unfoldable pub tickedTask : State → ℕ → TaskNumber → Task
 tickedTask st n t = record {
   mode = taskAt st t .mode;
   runs = taskAt st t .runs;
@@ -123,21 +123,22 @@ tickedTask st n t = record {
   held = taskAt st t .held;
 }
 
-unfoldable pub taskBy : State → (ℕ → Task) → ℕ → Task
+unfoldable pub taskBy : State → (TaskNumber → Task) → TaskNumber → Task
 taskBy st f t = if here st t then f t else taskAt st t
 
+-- rules 7.5, 8.1 together: clock, servers and tasks
 unfoldable pub elapsed : State → ℕ → State
 elapsed st n = withClock (st .clock + n) (withTasks (setTo places (taskBy st (tickedTask st n)) (st .task)) (eachServer st (spentServer st n)))
 
--- Recharge s: "budget Q, deadline clock + P, Active, or Idle if the served task is suspended."
-unfoldable pub rechargedPhase : State → ℕ → Phase
+-- rule 7.6, recharge s: filled anew; Idle behind a task that is suspended, otherwise Active
+unfoldable pub rechargedPhase : State → ServerNumber → Phase
 rechargedPhase st s = if suspended (taskAt st (served st s) .mode) then Idle else Active
 
-unfoldable pub recharged : State → ℕ → State
+unfoldable pub recharged : State → ServerNumber → State
 recharged st s = withServer s (refilled (rechargedPhase st s) (st .clock) (serverAt st s)) st
 
--- a stack with r on top; with its top given up
-abbrev pub pushed : ℕ → Task → Task
+-- rules 2.3, 2.6: a stack with r on top; with its top given up
+abbrev pub pushed : ResourceNumber → Task → Task
 pushed r k = record { mode = k .mode; runs = k .runs; declared = k .declared; depth = k .depth + 1; executed = k .executed; held = set (k .held) (k .depth) r }
 
 abbrev pub popped : Task → Task
@@ -146,8 +147,8 @@ popped k = record { mode = k .mode; runs = k .runs; declared = k .declared; dept
 abbrev pub withOwner : Owner → Resource → Resource
 withOwner o x = record { owner = o; waiting = x .waiting; queue = x .queue }
 
--- a queue with t at its end; with its first given up, the others one place on
-abbrev pub enqueued : ℕ → Resource → Resource
+-- rules 2.4, 2.6: a queue with t at its end; with its first given up, the others one place on
+abbrev pub enqueued : TaskNumber → Resource → Resource
 enqueued t x = record { owner = x .owner; waiting = x .waiting + 1; queue = set (x .queue) (x .waiting) (record { 0 = t }) }
 
 unfoldable pub nextInQueue : List TaskNo → ℕ → TaskNo
@@ -159,31 +160,32 @@ shifted q last = set (setTo last (nextInQueue q) q) last (record { 0 = 0 })
 abbrev pub dequeued : Resource → Resource
 dequeued x = record { owner = x .owner; waiting = x .waiting - 1; queue = shifted (x .queue) (x .waiting - 1) }
 
-abbrev pub firstWaiter : Resource → ℕ
+abbrev pub firstWaiter : Resource → TaskNumber
 firstWaiter x = getD (x .queue) 0 (record { 0 = 0 }) .0
 
--- Lock t r: "free: t owns it"
-unfoldable pub granted : State → ℕ → ℕ → State
+-- rule 7.7, lock of what nobody owns
+unfoldable pub granted : State → TaskNumber → ResourceNumber → State
 granted st t r =
     withTask t (pushed r (taskAt st t)) (withResource r (withOwner (By (record { 0 = t })) (resourceAt st r)) st)
 
--- "Owned: t joins the queue's end"; first stage
-unfoldable pub joined : State → ℕ → ℕ → State
+-- rule 7.8, lock of what somebody owns, in two stages: t waits, last in the queue,
+unfoldable pub joined : State → TaskNumber → ResourceNumber → State
 joined st t r = withTask t (withMode (Waiting r) (taskAt st t)) (withResource r (enqueued t (resourceAt st r)) st)
 
--- "if that task", the new chain end, "is suspended, Active and Running servers now serving it become Idle"; second stage, by the chains of the first
-unfoldable pub restedEnd : State → ℕ → State
+-- and, by the chains that are then, the servers of a suspended chain end rest
+unfoldable pub restedEnd : State → TaskNumber → State
 restedEnd st t = if suspended (taskAt st (served st t) .mode) then rested st (served st t) else st
 
-unfoldable pub locked : State → ℕ → ℕ → State
+-- rules 7.7, 7.8
+unfoldable pub locked : State → TaskNumber → ResourceNumber → State
 locked st t r = if owned (resourceAt st r .owner) then restedEnd (joined st t r) t else granted st t r
 
--- Unlock t r: "with none waiting, freed"
-unfoldable pub freed : State → ℕ → ℕ → State
+-- rule 7.9, unlock of what nobody waits for
+unfoldable pub freed : State → TaskNumber → ResourceNumber → State
 freed st t r = withTask t (popped (taskAt st t)) (withResource r (withOwner Nobody (resourceAt st r)) st)
 
--- "the first waiter owns it, on top of its stack"
-unfoldable pub passed : State → ℕ → ℕ → ℕ → State
+-- rule 7.10, unlock of what has a queue: the heir is its first. Whole chains go with it, since links lead to owners (rule 3.1).
+unfoldable pub passed : State → TaskNumber → ResourceNumber → TaskNumber → State
 passed st t r heir =
     withTask heir
     (pushed r (withMode Ready (taskAt st heir)))
@@ -191,10 +193,11 @@ passed st t r heir =
     (popped (taskAt st t))
     (withResource r (withOwner (By (record { 0 = heir })) (dequeued (resourceAt st r))) st))
 
-unfoldable pub unlocked : State → ℕ → ℕ → State
+-- rules 7.9, 7.10
+unfoldable pub unlocked : State → TaskNumber → ResourceNumber → State
 unlocked st t r = if eqb (resourceAt st r .waiting) 0 then freed st t r else passed st t r (firstWaiter (resourceAt st r))
 
--- the event's own change
+-- rules 7.1 to 7.10: the event's own change
 abbrev pub changed : State → Event → State
 changed st (Wake t) = woken st (t .0)
 changed st (Suspend t) = slept st (t .0)
@@ -205,8 +208,8 @@ changed st (Recharge s) = recharged st (s .0)
 changed st (Lock t r) = locked st (t .0) r
 changed st (Unlock t r) = unlocked st (t .0) r
 
--- for rule H's second step: "after a lock or unlock, the server that executed the acting task"
-abbrev pub acting : State → Event → ℕ
+-- rule 6.2: for a lock or an unlock the server in which the acting task executes, otherwise nobody
+abbrev pub acting : State → Event → ServerNumber
 acting st (Wake t) = nobody
 acting st (Suspend t) = nobody
 acting st (Dispatch s) = nobody

@@ -1,4 +1,4 @@
--- Meter rows: document 01, "A caller may lend meter rows, one record per server". Assumes nothing.
+-- Meter rows, which a caller lends: rules 9.1 and 9.2. Assumes nothing.
 use mathlib.Core.Bool.{not}
 use mathlib.Core.List.{List}
 use mathlib.Core.Option.{Option, none, some}
@@ -12,11 +12,11 @@ use Rattle.model.specs.declared.State.{State}
 use Rattle.model.specs.declared.Row.{Row}
 use Rattle.model.specs.declared.Answer.{Answer}
 use Rattle.model.specs.declared.Answer.the-variants.{Ok, Refused}
-use Rattle.model.specs.State.{places, serverAt, here}
+use Rattle.model.specs.State.{ServerNumber, places, serverAt, here}
 use Rattle.model.specs.Sound.{sound}
 
--- "server s's state, budget and accounts"
-unfoldable pub rowOf : State → ℕ → Row
+-- rule 9.1: what row s receives of server s
+unfoldable pub rowOf : State → ServerNumber → Row
 rowOf st s = record {
   phase = serverAt st s .phase;
   budget = serverAt st s .budget;
@@ -28,14 +28,14 @@ rowOf st s = record {
 abbrev pub noRow : Row
 noRow = record { phase = Idle; budget = 0; own = 0; lent = 0; spin = 0 }
 
--- "row s receives .., other rows stay"
-unfoldable pub meteredRow : State → List Row → ℕ → Row
+-- rule 9.1: a row for each server in use, further rows stay
+unfoldable pub meteredRow : State → List Row → ServerNumber → Row
 meteredRow st rows s = if here st s then rowOf st s else getD rows s noRow
 
 unfoldable pub meteredRows : State → List Row → List Row
 meteredRows st rows = setTo places (meteredRow st rows) rows
 
--- "refusals 1, 22": "too few meter rows; none written"
+-- rule 9.2: 1 for an unsound state, then 22 for fewer rows than tasks
 unfoldable pub meterRefusal : State → ℕ → Option ℕ
 meterRefusal st lent = firstOf (1 when not (sound st) or 22 when ltb lent (st .tasks) or accepted)
 
@@ -43,6 +43,6 @@ abbrev pub meterBy : Option ℕ → State → List Row → Answer × List Row
 meterBy none st rows = (Ok (countTo places (here st)), meteredRows st rows)
 meterBy (some n) st rows = (Refused n, rows)
 
--- "That answers `ok` and how many rows"
+-- rule 9.2: the answer, and the rows at exit
 unfoldable pub metered : State → List Row → Answer × List Row
 metered st rows = meterBy (meterRefusal st (length rows)) st rows

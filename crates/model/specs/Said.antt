@@ -1,4 +1,4 @@
--- What the answers say in document 01's words and numbers. Assumes nothing.
+-- What the answers say, as a word and a number: the words of rules 7.1 to 7.10 and 10.1. Assumes nothing.
 use mathlib.Core.Bool.{Bool, true, false}
 use Prim.Native.Nat.{ℕ}
 use Rattle.model.specs.declared.Answer.{Answer}
@@ -6,7 +6,7 @@ use Rattle.model.specs.declared.Answer.the-variants.{Ok, Executes, Spins
 use Rattle.model.specs.declared.FreshAnswer.{FreshAnswer}
 use Rattle.model.specs.declared.FreshAnswer.the-variants as fresh
 
--- "answer word (`refused` for a refusal)"
+-- rule 14.1: the words that a listing prints
 pub data Word : Type 0 where
   ok executes spins granted waits passed freed refused : Word
 

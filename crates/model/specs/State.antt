@@ -1,5 +1,5 @@
 -- The state's entries, which numbers are in use, the chain of waiting, what a server serves and who executes.
--- Document 01, "Sizes" and the first half of "The state". Assumes nothing.
+-- Rules 1.2, 1.3, 1.6, 1.7, 2.1 to 2.5 and 3.1 to 3.4. Assumes nothing.
 use mathlib.Core.Bool.{Bool, true, false, _&&_}
 use mathlib.Core.List.{[]}
 use Prim.Native.Nat.{ℕ, zero, suc, _/_, _%_, _^_}
@@ -19,7 +19,18 @@ use Rattle.model.specs.declared.Task.{Task}
 use Rattle.model.specs.declared.Resource.{Resource}
 use Rattle.model.specs.declared.State.{State}
 
--- "Tasks 1 to 16, each with one server of the same number, both from 0. Resources 0 to 16."
+-- Rule 1.2: tasks, servers and resources are numbered each on their own, and a signature says whose number it takes. Where it says ℕ, the number is
+-- that of a task and of its server both, or none of the three.
+abbrev pub TaskNumber : Type 0
+TaskNumber = ℕ
+
+abbrev pub ServerNumber : Type 0
+ServerNumber = ℕ
+
+abbrev pub ResourceNumber : Type 0
+ResourceNumber = ℕ
+
+-- rules 1.2, 1.3, 1.7: there is room for sixteen of each
 abbrev pub places : ℕ
 places = 16
 
@@ -27,7 +38,7 @@ places = 16
 abbrev pub nobody : ℕ
 nobody = 16
 
--- what an array is read as past its end
+-- rules 2.1 to 2.5, the entries of a state; and what an array is read as past its end
 abbrev pub noServer : Server
 noServer = record { phase = Idle; budget = 0; deadline = 0; quota = 0; period = 0; own = 0; lent = 0; spin = 0 }
 
@@ -37,16 +48,16 @@ noTask = record { mode = Suspended; runs = Nowhere; declared = 0; depth = 0; exe
 abbrev pub noResource : Resource
 noResource = record { owner = Nobody; waiting = 0; queue = [] }
 
-abbrev pub serverAt : State → ℕ → Server
+abbrev pub serverAt : State → ServerNumber → Server
 serverAt st s = getD (st .server) s noServer
 
-abbrev pub taskAt : State → ℕ → Task
+abbrev pub taskAt : State → TaskNumber → Task
 taskAt st t = getD (st .task) t noTask
 
-abbrev pub resourceAt : State → ℕ → Resource
+abbrev pub resourceAt : State → ResourceNumber → Resource
 resourceAt st r = getD (st .resource) r noResource
 
--- "Entries past the counts are neither read nor changed": i has a place, and is below the count
+-- rule 1.7: i has a place, and is below the count
 abbrev pub inUse : ℕ → ℕ → Bool
 inUse count i = ltb i places && ltb i count
 
@@ -55,17 +66,17 @@ unfoldable pub here : State → ℕ → Bool
 here st i = inUse (st .tasks) i
 
 -- r is a resource's number in use
-unfoldable pub present : State → ℕ → Bool
+unfoldable pub present : State → ResourceNumber → Bool
 present st r = inUse (st .resources) r
 
--- "Each task declares the set of resources it may lock": bit r for resource r
-abbrev pub inSet : ℕ → ℕ → Bool
+-- rule 1.6: a declared set has resource r where bit r of its number is 1
+abbrev pub inSet : ℕ → ResourceNumber → Bool
 inSet declared r = ltb r places && eqb (declared / 2 ^ r % 2) 1
 
-unfoldable pub declares : State → ℕ → ℕ → Bool
+unfoldable pub declares : State → TaskNumber → ResourceNumber → Bool
 declares st t r = inSet (taskAt st t .declared) r
 
--- "A server is Idle, Active, Running or Recharging"
+-- rule 2.1: the four phases, a test for each
 abbrev pub idle : Phase → Bool
 idle Idle = true
 idle Active = false
@@ -90,7 +101,7 @@ recharging Active = false
 recharging Running = false
 recharging Recharging = true
 
--- "A task is suspended, ready or waiting for one resource"
+-- rule 2.2: the three modes, and what is awaited, nobody's number where nothing is
 abbrev pub suspended : Mode → Bool
 suspended Suspended = true
 suspended Ready = false
@@ -101,62 +112,62 @@ waiting Suspended = false
 waiting Ready = false
 waiting (Waiting r) = true
 
-abbrev pub awaited : Mode → ℕ
+abbrev pub awaited : Mode → ResourceNumber
 awaited Suspended = nobody
 awaited Ready = nobody
 awaited (Waiting r) = r
 
--- "A resource has an owner or none"
+-- rule 2.4: a resource has an owner or none
 abbrev pub owned : Owner → Bool
 owned Nobody = false
 owned (By t) = true
 
-abbrev pub ownerNo : Owner → ℕ
+abbrev pub ownerNo : Owner → TaskNumber
 ownerNo Nobody = nobody
 ownerNo (By t) = t .0
 
--- where a task executes
+-- rule 2.5: the server in which a task executes, if there is one
 abbrev pub placed : Runs → Bool
 placed Nowhere = false
 placed (In s) = true
 
-abbrev pub placeNo : Runs → ℕ
+abbrev pub placeNo : Runs → ServerNumber
 placeNo Nowhere = nobody
 placeNo (In s) = s .0
 
--- the owner of resource r if it is a task in use, else nobody
-unfoldable pub ownerOf : State → ℕ → ℕ
+-- rule 3.1: the owner of resource r if both are in use, else nobody
+unfoldable pub ownerOf : State → ResourceNumber → TaskNumber
 ownerOf st r = if present st r && here st (ownerNo (resourceAt st r .owner)) then ownerNo (resourceAt st r .owner) else nobody
 
--- one link of the chain: "the owner of what it waits for"
-unfoldable pub next : State → ℕ → ℕ
+-- rule 3.1: the link of task t, to the owner of what it waits for
+unfoldable pub next : State → TaskNumber → TaskNumber
 next st t = if here st t then ownerOf st (awaited (taskAt st t .mode)) else nobody
 
--- "The chain end of a task: itself if it waits for nothing, otherwise the chain end of the owner of what it waits for. The chain is followed
--- link by link, with fewer tasks left at each."
-unfoldable pub chainEnd : ℕ → State → ℕ → ℕ
+-- rule 3.2: where the links lead from task t, in so many links at most
+unfoldable pub chainEnd : ℕ → State → TaskNumber → TaskNumber
 chainEnd zero st t = t
 chainEnd (suc left) st t = if ltb (next st t) places then chainEnd left st (next st t) else t
 
--- "Server s serves the chain end of task s."
-unfoldable pub served : State → ℕ → ℕ
+-- rule 3.3: a server serves the chain end of the task of its own number. Asked of a task's number it is that task's chain end.
+unfoldable pub served : State → ServerNumber → TaskNumber
 served st s = chainEnd places st s
 
-unfoldable pub runningAt : State → ℕ → Bool
+-- s is in use and Running
+unfoldable pub runningAt : State → ServerNumber → Bool
 runningAt st s = here st s && running (serverAt st s .phase)
 
 -- s is a Running server that serves t
-unfoldable pub runningFor : State → ℕ → ℕ → Bool
+unfoldable pub runningFor : State → TaskNumber → ServerNumber → Bool
 runningFor st t s = runningAt st s && eqb (served st s) t
 
--- the server in which t executes, or nobody
-unfoldable pub executorOf : State → ℕ → ℕ
+-- rule 2.5: the server in which t executes, or nobody
+unfoldable pub executorOf : State → TaskNumber → ServerNumber
 executorOf st t = placeNo (taskAt st t .runs)
 
 -- t executes
-unfoldable pub executing : State → ℕ → Bool
+unfoldable pub executing : State → TaskNumber → Bool
 executing st t = here st t && placed (taskAt st t .runs)
 
--- "A Running server either executes the task that it serves or spins."
-unfoldable pub executes : State → ℕ → Bool
+-- rule 3.4: s is Running and executes the task that it serves; a Running server that does not, spins
+unfoldable pub executes : State → ServerNumber → Bool
 executes st s = runningAt st s && eqb (executorOf st (served st s)) s

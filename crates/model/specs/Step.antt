@@ -1,5 +1,5 @@
--- One step: refusal, change, rule H, answer; and a run over a list of events. Document 01, "Events" (the answers) and "Refusal numbers".
--- `free` is the machine of the same text without the tests for 1 and 8, through which the theorems on order go. Assumes nothing.
+-- One step: refusal, change, rule H, answer. Rules 10.1 to 10.3, and the answers of rules 7.1 to 7.10.
+-- `free` is the machine of the same rules without the tests for 1 and 8, through which the theorems on order go. Assumes nothing.
 use mathlib.Core.Bool.{Bool, not, _&&_, _||_}
 use mathlib.Core.List.{List}
 use mathlib.Core.Option.{Option, none, some}
@@ -14,28 +14,28 @@ use Rattle.model.specs.declared.Event.the-variants.{Wake, Suspend, Dispa
 use Rattle.model.specs.declared.Answer.{Answer}
 use Rattle.model.specs.declared.Answer.the-variants.{Ok, Executes, Spins, Granted, Waits, Passed, Freed, Refused}
 use Rattle.model.specs.declared.Outcome.{Outcome}
-use Rattle.model.specs.State.{places, serverAt, taskAt, resourceAt, here, present, declares, active, running, recharging, suspended, owned, ownerNo, placed, served, runningAt, executing, executes}
+use Rattle.model.specs.State.{TaskNumber, ServerNumber, ResourceNumber, places, serverAt, taskAt, resourceAt, here, present, declares, active, running, recharging, suspended, owned, ownerNo, placed, served, runningAt, executing, executes}
 use Rattle.model.specs.Sound.{each, clockLimit, sound}
 use Rattle.model.specs.RuleH.{settled}
 use Rattle.model.specs.Events.{wakes, rests, runsOut, firstWaiter, changed, acting}
 
--- "no processor free"
+-- rule 10.2, number 8: every processor has a Running server
 unfoldable pub crowded : State → Bool
 crowded st = leb (st .processors) (countTo places (runningAt st))
 
--- Running server s has the budget for n ticks
-unfoldable pub affords : State → ℕ → ℕ → Bool
+-- rule 10.2, number 12: if Running, server s has the budget for n ticks
+unfoldable pub affords : State → ℕ → ServerNumber → Bool
 affords st n s = runningAt st s implies leb n (serverAt st s .budget)
 
--- "the owner's chain ends at t"
-unfoldable pub endsAt : State → ℕ → ℕ → Bool
+-- rule 10.2, number 16: r has an owner, and the owner's chain ends at t
+unfoldable pub endsAt : State → TaskNumber → ResourceNumber → Bool
 endsAt st t r = owned (resourceAt st r .owner) && eqb (served st (ownerNo (resourceAt st r .owner))) t
 
--- the resource on top of t's stack
-unfoldable pub topOf : State → ℕ → ℕ
+-- rule 10.2, number 18: the resource on top of t's stack
+unfoldable pub topOf : State → TaskNumber → ResourceNumber
 topOf st t = getD (taskAt st t .held) (taskAt st t .depth - 1) 0
 
--- the refusals of each event after 1, in their order: "ascending, save that unlock doesn't test 4"
+-- rule 10.2: the tests of each event after 1, in their order; rule 10.3: unlock does not ask what is declared
 abbrev pub tests : State → Event → List (ℕ × Bool)
 tests st (Wake t) = 2 when not (here st (t .0)) or 5 when not (suspended (taskAt st (t .0) .mode)) or accepted
 tests st (Suspend t) = 2 when not (here st (t .0)) or 6 when not (executing st (t .0)) or accepted
@@ -71,7 +71,7 @@ tests st (Unlock t r) =
     18 when not (eqb (topOf st (t .0)) r) or
     accepted
 
--- the answer, from the state before and the state after
+-- rules 7.1 to 7.10: the answer, from the state before and the state after
 abbrev pub answered : State → State → Event → Answer
 answered st after (Wake t) = Ok (countTo places (wakes st (t .0)))
 answered st after (Suspend t) = Ok (countTo places (rests st (t .0)))
@@ -89,18 +89,19 @@ answered st after (Unlock t r) =
 unfoldable pub stateAfter : State → Event → State
 stateAfter st e = settled st (acting st e) (changed st e)
 
--- "A step's refusal returns its number and the given state, unchanged."
+-- rule 10.1: a refused event has its number for an answer, and the state stays
 abbrev pub outcome : Option ℕ → State → Event → Outcome
 outcome none st e = record { answer = answered st (stateAfter st e) e; state = stateAfter st e }
 outcome (some n) st e = record { answer = Refused n; state = st }
 
--- a step on a state that is sound
+-- rule 10.2: a step on a state that is sound, and on any state
 unfoldable pub attempted : State → Event → Outcome
 attempted st e = outcome (firstOf (tests st e)) st e
 
 unfoldable pub stepped : State → Event → Outcome
 stepped st e = if sound st then attempted st e else record { answer = Refused 1; state = st }
 
+-- the same without the tests for 1 and 8
 unfoldable pub free : State → Event → Outcome
 free st e = outcome (firstOf (without 8 (tests st e))) st e
 

@@ -1,13 +1,14 @@
-// The types of the machine: numbers, state, events, answers and tables. A state goes in by value and comes back by value.
+// The types of the machine: numbers, state, events, answers and tables (rules 1 and 2). A state goes in by value and comes back by value.
 // Widths are chosen for size (ticks and accounts 32 bits, numbers the 16 bits of a trace's operands); to the specs each is a number.
-// There are sixteen places for tasks, servers and resources; entries past the counts are neither read nor changed.
+// There are sixteen places for tasks, servers and resources; entries from the count on are not in use (rule 1.7). Assumes nothing.
 
-// The number of a task, the paper's tau.
+// The number of a task, the paper's tau (rule 1.2).
 pub struct TaskNo(pub u16);
 
-// The number of a server, the paper's S.
+// The number of a server, the paper's S (rule 1.2).
 pub struct ServerNo(pub u16);
 
+// Rule 2.1.
 pub enum Phase {
     Idle,
     Active,
@@ -15,7 +16,7 @@ pub enum Phase {
     Recharging,
 }
 
-// A reservation: `quota` is its budget Q every `period` P; `budget` is what remains. Ticks executing its own task, another's, spinning.
+// A reservation (rules 1.4, 2.1, 8.1): `quota` is its budget Q every `period` P; `budget` is what remains. Ticks executing its own task, another's, spinning.
 pub struct Server {
     pub phase: Phase,
     pub budget: u32,
@@ -27,6 +28,7 @@ pub struct Server {
     pub spin: u32,
 }
 
+// Rule 2.2.
 pub enum Mode {
     Suspended,
     Ready,
@@ -34,13 +36,13 @@ pub enum Mode {
     Waiting(u16),
 }
 
-// Where a task executes.
+// Where a task executes (rule 2.5).
 pub enum Runs {
     Nowhere,
     In(ServerNo),
 }
 
-// `declared` has bit r for resource r; the resources it holds are the first `depth` places of `held`, the latest last.
+// Rules 1.6, 2.3: `declared` has bit r for resource r; the resources it holds are the first `depth` places of `held`, the latest last.
 pub struct Task {
     pub mode: Mode,
     pub runs: Runs,
@@ -55,7 +57,7 @@ pub enum Owner {
     By(TaskNo),
 }
 
-// The tasks that wait for it are the first `waiting` places of `queue`, the first come first.
+// Rule 2.4: the tasks that wait for it are the first `waiting` places of `queue`, the first come first.
 pub struct Resource {
     pub owner: Owner,
     pub waiting: u16,
@@ -72,6 +74,7 @@ pub struct State {
     pub resource: [Resource; 16],
 }
 
+// Rules 7.1 to 7.10.
 pub enum Event {
     Wake(TaskNo),
     Suspend(TaskNo),
@@ -100,7 +103,7 @@ pub struct Outcome {
     pub state: State,
 }
 
-// A task's line of the table from which a state starts.
+// A task's line of the table from which a state starts (rule 5.1).
 pub struct Entry {
     pub quota: u32,
     pub period: u32,
@@ -124,7 +127,7 @@ pub struct FreshOutcome {
     pub state: State,
 }
 
-// A meter row: what a caller sees of one server.
+// A meter row: what a caller sees of one server (rule 9.1).
 pub struct Row {
     pub phase: Phase,
     pub budget: u32,

@@ -1,4 +1,4 @@
--- What a machine has to meet, for its answers and states to be the same in each order, and for deletion. Assumes nothing.
+-- What a machine has to meet, for its answers and states to be the same in each order (rule 11.3), and for deletion. Assumes nothing.
 use mathlib.Core.Path.{_≡_}
 use mathlib.Core.Bool.{Bool, true, false}
 use Prim.Native.Nat.{ℕ}

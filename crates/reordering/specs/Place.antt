@@ -1,4 +1,4 @@
--- A reordering told by places: which place of the one list goes to which place of the other. Assumes nothing.
+-- A reordering (rule 11.3) told by places: which place of the one list goes to which place of the other. Assumes nothing.
 use mathlib.Core.Path.{_≡_}
 use mathlib.Core.List.{List}
 use mathlib.Core.Option.{some}

@@ -2,7 +2,7 @@
 -- equal. `free` is the machine without processors; on a sound state a step that is refused neither 1 nor 8 does what `free` does, and refusal 1 never
 -- comes. Whether `free` refuses an event and what it answers are its group's own matter (`verdict-same`, `outcome-same`): each test reads what the group
 -- reads, a lock of another group's resource is refused at 2, 3 or 4 before its owner is read, and an unlock of one at 17. It keeps `Good`, and writes
--- what is the group's alone (Locality.antt), so it meets the laws of reordering for any labelling that fits (`ordered`). The groups of document 01 are
+-- what is the group's alone (Locality.antt), so it meets the laws of reordering for any labelling that fits (`ordered`). The groups of rule 11.1 are
 -- one: a task has its group's number, a resource that of the tasks that declare it. Assumes nothing.
 use Rattle.theory.proofs.Kit.{_≡_, refl, sym, ap, _∙_, true, false, Bool, _||_, true≢false, _&&_, Option, none, some, List, [], _∷_, ⊎-elim, ℕ, arith, eqb, ext-getD, eqb-true, eqb-false, eq-eqb}
 use lib.ListN.{getElem? as at}
