@@ -1,4 +1,4 @@
-// Entries past the counts, and what a refused fresh or a refused read gives back beside its answer: no state of use. Assumes nothing.
+// Entries not in use (rule 5.3), and what a refused fresh or a refused read gives back beside its answer. Assumes nothing.
 ghost use mathlib.Core.Path.{_≡_};
 ghost use Rattle.model.specs.Fresh.{blankServer, blankTask, blankResource, unusable};
 use crate::Mode;
@@ -52,7 +52,7 @@ fn blank_resource() -> Resource
     }
 }
 
-// "no processors, no tasks, no resources and the rest as in entries past the counts"
+// Rule 5.5: what a refusal gives back beside its number.
 pub fn unusable_state() -> State
     ensures { λ r. ⌜ r ≡ unusable ⌝ }
 {
