@@ -87,11 +87,11 @@ pub end-more : (st : State) (t left : ℕ) → Open st t → places ≤ left →
 end-more st t left o l =
     end-walk left st t ∙ walk-more places (next st) places left t (rw (← (served-walk st t)) o) l ∙ sym (served-walk st t)
 
--- "itself if it waits for nothing,"
+-- rule 3.2: a task without a link is its own chain end,
 pub end-itself : (st : State) (t : ℕ) → places ≤ next st t → served st t ≡ t
 end-itself st t e = served-walk st t ∙ walk-ended places (next st) places t e
 
--- "otherwise the chain end of the owner of what it waits for."
+-- and any other has that of the task it is linked to
 pub end-owner : (st : State) (t : ℕ) → Open st t → next st t < places → served st t ≡ served st (next st t)
 unfolding walk
 end-owner st t o l =
@@ -134,7 +134,7 @@ pub served-here : (st : State) (t : ℕ) → here st t ≡ true → here st (ser
 unfolding served
 served-here st t h = end-here places st t h
 
--- "no chain closes": no task is reached again from itself in one link or more
+-- rule 4.12, no chain closes: no task is reached again from itself in one link or more
 abbrev pub Unclosed : State → Type 0
 Unclosed st = (t j : ℕ) → Leads places (next st) (suc j) t t → ⊥
 

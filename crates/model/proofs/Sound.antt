@@ -44,7 +44,7 @@ unfolding eachResource ifPresent
 each-resource-fact st p P r = each-by (present st) _ P (present-below st) (λ i. reflects-implies (reflects-self (present st i)) (r i))
 
 module _ (st : State) (i : ℕ) where
-  -- "1 ≤ Q ≤ P ≤ 1,000,000"
+  -- rule 1.4
   abbrev pub Reservation : Type 0
   Reservation = (1 ≤ serverAt st i .quota) × (serverAt st i .quota ≤ serverAt st i .period) × (serverAt st i .period ≤ 1000000)
 
@@ -272,7 +272,7 @@ loose-facts st =
     })
     (λ h. ((((((((((((((((((((((h .processors-least, h .processors-most), h .tasks-least), h .tasks-most), h .resources-most), h .clock-most), h .reservation), h .declaration), h .deadline), h .budget), h .empty), h .stack), h .queue), h .owner), h .wait), h .agree), h .unqueued), h .declared), h .opens), h .idles), h .executor), h .serves), h .accounts))
 
--- "at most as many servers run as there are processors"
+-- rule 4.6
 abbrev pub Seated : State → Type 0
 Seated st = countTo places (runningAt st) ≤ st .processors
 

@@ -105,7 +105,7 @@ module _ (st : State) (t r : ℕ) (some : 0 < resourceAt st r .waiting) (way : W
   after-mid : (y : ℕ) → served after y ≡ served mid y
   after-mid = same-served after mid after-links
 
-  -- "what reached the releaser through this resource goes to the heir,
+  -- rule 7.10: what reached the releaser through this resource goes to the heir,
   through-heir : (k s w : ℕ) → here st s ≡ true → Leads places (next st) k s w → taskAt st w .mode ≡ Waiting r → served after s ≡ h
   through-heir k s w u l m = after-mid s ∙ T.ends-through st t r some way k s w u l (wants-by w (leads-here st k s w u l) m)
 
@@ -172,7 +172,7 @@ module _ (st : State) (t r : ℕ) (some : 0 < resourceAt st r .waiting) (way : W
       (λ b. through-heir (suc (b .links)) s (q .waiter) u (b .way) (q .here-waits))
       (q .way)
 
-  -- the rest stays"
+  -- and the rest stays
   goes-apart : (s : ℕ) → here st s ≡ true → (Through st r s → ⊥) → served after s ≡ served st s
   unfolding Leads
   goes-apart s u n = after-mid s ∙ T.ends-apart st t r some way s (λ k v l y. n (leads-through k v l (by-wants v y)))

@@ -1,5 +1,5 @@
 -- Processors: a server that runs after an event's change ran before it or is the one that the event dispatches (`ran-by`, from what an event can make
--- of a server, Frames.antt). So the layer chooses nobody (`dispatch-only`), and at most as many servers run as there are processors (`seated-after`):
+-- of a server, Frames.antt). So the layer chooses nobody (`dispatch-only`), and no more servers are Running than there are processors (`seated-after`):
 -- only a dispatch adds one, and it is refused where all are taken. Rule H changes no phase. Assumes nothing.
 use Rattle.theory.proofs.Kit.{_≡_, refl, sym, ap, _∙_, Bool, true, false, _&&_, _⊎_, inl, inr, ⊎-elim, none, ℕ, _<_, _≤_, arith, getD-set-other, leb-false}
 use Rattle.laws.specs.Tests.{if_then_else_, firstOf}

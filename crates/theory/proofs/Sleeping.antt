@@ -15,7 +15,7 @@ use Rattle.model.proofs.Variants.{idle-is, recharging-is}
 use Rattle.theory.proofs.Readings.{resting, for-served, off-for, other-for}
 use Rattle.theory.proofs.Executing.{Way}
 
--- "Active and Running servers serving it become Idle": all that do not recharge
+-- rule 7.2: of the servers that serve it all become Idle that do not recharge
 at-rest : (x : Server) → (active (x .phase) || running (x .phase)) ≡ false → recharging (x .phase) ≡ false → withPhase Idle x ≡ x
 at-rest x f g = ap (λ p. withPhase p x) (idles (x .phase) f g)
   where

@@ -1,8 +1,8 @@
-//! The interference bound from a table of critical sections (document 01, "Interference bound",
-//! after Fig. 5 of document 004), with the count of weighings.
+//! The interference bound from a table of critical sections, after Fig. 5 of document 004, with the
+//! count of weighings (rules 12.1 to 12.9).
 //!
-//! Assumes nothing of the table: what is out of range is refused with 40 to 46. Printed line 27 of
-//! Fig. 5 tests the set on entry; here, as in document 01, Held is tested.
+//! Assumes nothing of the table: what is out of range is refused with 40 to 46. Line 27 of Fig. 5
+//! is followed with Held in place of the set on entry (rule 12.7).
 
 use crate::refusal::{require, Refusal};
 use crate::state::{ResourceNumber, TaskNumber, RESOURCE_LIMIT, TICK_LIMIT};
@@ -50,7 +50,7 @@ pub fn bound(table: &SectionTable, task: TaskNumber, allowance: u32) -> Result<B
 }
 
 impl SectionTable {
-    /// Refusals 40 to 43: "41 and 42 by section, then 43".
+    /// Refusals 40 to 43, in the order of rule 12.9.
     pub fn check(&self) -> Result<(), Refusal> {
         let tasks_in_range = (1..=BOUND_TASK_LIMIT).contains(&self.tasks);
         let sections_in_range = self.sections.len() <= SECTION_LIMIT;
@@ -81,7 +81,7 @@ impl SectionTable {
         require(rises, Refusal::ResourceNotAboveParent)
     }
 
-    /// "Children's lengths sum to at most the parent's": those directly nested in it.
+    /// Rule 12.2: those directly nested in it are together no longer.
     fn check_children(&self, number: usize) -> Result<(), Refusal> {
         let total: u64 = self
             .sections
@@ -182,8 +182,7 @@ impl<'a> Search<'a> {
         self.sections_where(|section| section.task == task && section.parent.is_none())
     }
 
-    /// The interference sum of some sections of one task: for each its ordering value and the same
-    /// calculation on its direct children, "both with R and c's resource".
+    /// The interference of some sections of one task (rule 12.4).
     fn interference(
         &mut self,
         sections: Set,
@@ -203,7 +202,7 @@ impl<'a> Search<'a> {
     }
 
     /// The largest sum over all orders of the tasks left: each is tried next, with all orders of
-    /// the rest after it. B doesn't grow along an order (line 23).
+    /// the rest after it. B stays as it is along an order (rules 12.5, 12.7).
     fn ordering_value(
         &mut self,
         resource: ResourceNumber,
@@ -221,8 +220,7 @@ impl<'a> Search<'a> {
         Ok(greatest)
     }
 
-    /// Weighs a task's sections on the resource by number; the first greatest counts, and its
-    /// outer resources join Held.
+    /// What a task gives at its place in an order, and Held after it (rule 12.5).
     fn weigh(
         &mut self,
         task: TaskNumber,
@@ -253,8 +251,8 @@ impl<'a> Search<'a> {
         Ok(best)
     }
 
-    /// "Each section weighed in that tree counts one, refused ones too." The count only grows, so
-    /// the search may end as soon as the allowance is exceeded.
+    /// Counts a section, whatever it gives (rule 12.8). The count only grows, so the search may end
+    /// as soon as the allowance is exceeded.
     fn count_weighing(&mut self) -> Result<(), Refusal> {
         self.weighings += 1;
         require(self.weighings <= self.allowance, Refusal::AllowanceExceeded)

@@ -1,5 +1,5 @@
-//! The independent second program of the lock layer, written from document 01 and its readings
-//! alone, in plain Rust. The proved layer is compared with it, and timed against it.
+//! The independent second program of the lock layer, written in plain Rust from the owner's text
+//! and from no definition of the layer. The proved layer is compared with it, and timed against it.
 //!
 //! - `state`: the state, its chains, `fresh`, and soundness clause by clause;
 //! - `step`: the eight events and rule H; `meter`: the rows a caller lends;
@@ -10,8 +10,8 @@
 //!
 //! `cargo test` runs the tests; `generate report SEED ROUNDS` prints what the cases reach.
 //!
-//! Assumes nothing from the proved layer and shares no code with it. Where a comment cites a
-//! reading such as E12, it is one of the project's readings of document 01.
+//! Assumes nothing from the proved layer and shares no code with it. Rules are cited by their
+//! numbers in `docs/RULES.md`.
 
 pub mod bound;
 pub mod generate;

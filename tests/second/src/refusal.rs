@@ -1,4 +1,4 @@
-//! The refusal numbers of document 01, one name for each.
+//! The refusal numbers of the rules (5.4, 9.2, 10.2, 12.9, 13.5 to 13.7), one name for each.
 //!
 //! Assumes nothing. The order in which an event tests them is the event's own matter.
 
@@ -41,7 +41,7 @@ pub enum Refusal {
 }
 
 impl Refusal {
-    /// The number document 01 gives it.
+    /// The number that is told.
     pub fn number(self) -> u16 {
         self as u16
     }

@@ -1,4 +1,4 @@
-//! Replaying a whole trace: the listing that document 01 gives for program `replay`.
+//! Replaying a whole trace: the listing of program `replay` (rules 14.1 to 14.5).
 //!
 //! Assumes nothing of the bytes; a file above 60,000 bytes may be given cut to one byte more.
 
@@ -38,7 +38,7 @@ struct Replay {
 }
 
 impl Replay {
-    /// "Each is tested as it is read, so the file's earliest fault is told."
+    /// The records one after the other, up to the first fault (rule 14.3).
     fn run(&mut self, bytes: &[u8]) -> Result<(), Fault> {
         check_size(bytes).map_err(|refusal| Fault { offset: 0, refusal })?;
         let mut place = Place::start(bytes);
@@ -69,7 +69,7 @@ impl Replay {
         Ok(())
     }
 
-    /// Without a finished table the file's end is out of order.
+    /// Without a finished table the file's end is out of order (rule 14.4).
     fn end(&mut self) -> Result<(), Refusal> {
         let state = self.state.ok_or(Refusal::RecordOutOfOrder)?;
         self.line(format_args!("end {}", state.clock));

@@ -8,7 +8,7 @@
 //! bound 0 1000         # task, allowance
 //! ```
 //!
-//! Assumes nothing of the text. Document 01 gives no text form; this one is this program's own.
+//! Assumes nothing of the text. The rules have no text form for tables; this one is this program's own.
 
 use crate::bound::{bound, Section, SectionTable};
 use crate::state::{ResourceNumber, TaskNumber};

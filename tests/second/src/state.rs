@@ -1,7 +1,8 @@
-//! The state of one machine (document 01, "Sizes" and "The state"), its chains, and `fresh`.
+//! The state of one machine (rules 1.1 to 2.6), its chains (rules 3.1 to 3.4), and `fresh`
+//! (rules 5.1 to 5.5).
 //!
 //! Assumes nothing of a given state: counts may be out of range and arrays may hold anything, and
-//! every function here still answers. Entries past the counts are neither read nor changed.
+//! every function here still answers. Entries from the count on are not in use (rule 1.7).
 
 mod soundness;
 
@@ -34,7 +35,7 @@ impl TaskNumber {
         usize::from(self.0)
     }
 
-    /// "Tasks 1 to 16, each with one server of the same number."
+    /// The server of the task's own number (rule 1.2).
     pub fn own_server(self) -> ServerNumber {
         ServerNumber(self.0)
     }
@@ -140,7 +141,7 @@ pub struct Reservation {
     pub declared: u16,
 }
 
-/// All that `fresh` asks for. Rows past the task count are ignored (U11).
+/// All that `fresh` asks for. Rows past the task count are ignored (rule 5.1).
 #[derive(Clone, Copy, Debug, Default, PartialEq, Eq)]
 pub struct Table {
     pub counts: Counts,
@@ -171,7 +172,7 @@ impl Task {
         self.depth += 1;
     }
 
-    /// A place given up is set to 0 (U7).
+    /// A place given up is set to 0 (rule 2.6).
     pub(crate) fn pop(&mut self) {
         self.depth -= 1;
         self.held[usize::from(self.depth)] = ResourceNumber(0);
@@ -189,7 +190,7 @@ impl Resource {
         self.waiting += 1;
     }
 
-    /// Takes the first waiter out; the others move up and the place given up is set to 0 (U7).
+    /// Takes the first waiter out; the others move up and the place given up is 0 (rule 2.6).
     pub(crate) fn take_first(&mut self) -> Option<TaskNumber> {
         let count = usize::from(self.waiting);
         let first = *self.waiters().first()?;
@@ -274,7 +275,7 @@ impl State {
     }
 
     /// The owner of what the task waits for: the next link of its chain. An owner that is not in
-    /// use counts as none (DECISIONS 22).
+    /// use counts as none (rule 3.1).
     pub fn next_in_chain(&self, task: TaskNumber) -> Option<TaskNumber> {
         if !self.has_task(task) {
             return None;
@@ -287,9 +288,8 @@ impl State {
         }
     }
 
-    /// "Itself if it waits for nothing, otherwise the chain end of the owner of what it waits
-    /// for." A number not in use is its own end, and a closed chain is followed for sixteen links
-    /// (X2).
+    /// Where the links lead from the task (rule 3.2). A number not in use is its own end, and a
+    /// closed chain is followed for sixteen links.
     pub fn chain_end(&self, task: TaskNumber) -> TaskNumber {
         let mut end = task;
         for _ in 0..TASK_LIMIT {
@@ -301,12 +301,12 @@ impl State {
         end
     }
 
-    /// "Server s serves the chain end of task s."
+    /// The chain end of the server's own task (rule 3.3).
     pub fn served_by(&self, server: ServerNumber) -> TaskNumber {
         self.chain_end(server.own_task())
     }
 
-    /// Whether the server executes a task, spins, or isn't running.
+    /// Whether the server executes a task, spins, or isn't running (rule 3.4).
     pub fn executing(&self, server: ServerNumber) -> Execution {
         if !self.has_server(server) || self[server].phase != Phase::Running {
             return Execution::NotRunning;
@@ -333,7 +333,7 @@ fn existing_bits(resources: u16) -> u16 {
 }
 
 impl Counts {
-    /// Refusal 19: processors 1 to 8, tasks 1 to 16, resources 0 to 16.
+    /// Refusal 19 (rules 1.1 to 1.3).
     pub fn check(&self) -> Result<(), Refusal> {
         let in_range = (1..=PROCESSOR_LIMIT).contains(&usize::from(self.processors))
             && (1..=TASK_LIMIT).contains(&usize::from(self.tasks))
@@ -343,7 +343,7 @@ impl Counts {
 }
 
 impl Reservation {
-    /// 1 ≤ Q ≤ P ≤ 1,000,000.
+    /// Rule 1.4.
     fn is_in_range(&self) -> bool {
         1 <= self.quota && self.quota <= self.period && self.period <= TICK_LIMIT
     }
@@ -362,7 +362,7 @@ impl Table {
         &self.rows[..usize::from(self.counts.tasks).min(TASK_LIMIT)]
     }
 
-    /// "For fresh, 19, then tasks in order, 20 before 21."
+    /// The counts, then task by task (rule 5.4).
     pub fn check(&self) -> Result<(), Refusal> {
         self.counts.check()?;
         self.used_rows()
@@ -371,8 +371,8 @@ impl Table {
     }
 }
 
-/// "All tasks suspended, servers Idle with budget Q and deadline 0, clock and accounts 0." A
-/// refusal comes with the state that is of no use.
+/// The state that a table starts from (rule 5.2). A refusal comes with the state that is of no use
+/// (rule 5.5).
 pub fn fresh(table: &Table) -> (State, Result<(), Refusal>) {
     if let Err(refusal) = table.check() {
         return (State::default(), Err(refusal));

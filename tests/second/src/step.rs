@@ -1,4 +1,5 @@
-//! The eight events, their refusals in document 01's order, rule H and the accounts.
+//! The eight events (rules 7.1 to 7.10), their refusals in order (rules 10.1 to 10.3), rule H
+//! (rules 6.1 to 6.3) and the accounts (rule 8.1).
 //!
 //! `step` assumes nothing of the state and refuses one that isn't sound. `step_sound` is for a
 //! caller who knows that the state is sound, as it came from `fresh` by steps alone. Both change
@@ -203,7 +204,7 @@ fn lock(state: &mut State, task: TaskNumber, resource: ResourceNumber) -> Answer
     Ok(Outcome::Waits(end))
 }
 
-/// Refusal 4 is not tested: what nobody may lock, nobody owns (E4).
+/// Refusal 4 is not tested: what nobody may lock, nobody owns (rule 10.3).
 fn unlock(state: &mut State, task: TaskNumber, resource: ResourceNumber) -> Answer {
     require(state.has_task(task), Refusal::NoSuchTaskOrServer)?;
     require(state.has_resource(resource), Refusal::NoSuchResource)?;

@@ -1,5 +1,5 @@
-//! Reading a trace (document 01, "Trace and replay"): its records one at a time, and the order in
-//! which they must come. All numbers are little-endian.
+//! Reading a trace (rules 13.1 to 13.8): its records one at a time, and the order in which they
+//! must come.
 //!
 //! Assumes nothing of the bytes.
 
@@ -35,7 +35,7 @@ pub enum Reading<'a> {
     End,
 }
 
-/// Refusal 33. A file of exactly 60,000 bytes is allowed (T8).
+/// Refusal 33. A file of exactly 60,000 bytes is allowed (rule 13.7).
 pub fn check_size(bytes: &[u8]) -> Result<(), Refusal> {
     require(bytes.len() <= FILE_LIMIT, Refusal::FileTooLong)
 }
@@ -45,8 +45,7 @@ impl<'a> Place<'a> {
         Place { bytes, offset: 0 }
     }
 
-    /// Reads the record that stands here. Refusals 30 and 31: "Length below 2 is told before a cut
-    /// body, a cut body before the kind."
+    /// Reads the record that stands here, or tells 30 or 31 (rule 13.5).
     pub fn read(self) -> Result<Reading<'a>, Refusal> {
         let rest = &self.bytes[self.offset.min(self.bytes.len())..];
         if rest.is_empty() {
@@ -111,7 +110,7 @@ fn decode(kind: u16, body: &[u8]) -> Result<Record, Refusal> {
     Ok(record)
 }
 
-/// The table as far as it has been read: "One 16, then a 17 per task, then events."
+/// The table as far as it has been read (rule 13.4).
 #[derive(Clone, Copy, Debug, Default, PartialEq, Eq)]
 pub struct TableReader {
     table: Table,
@@ -127,7 +126,7 @@ impl TableReader {
     }
 
     /// Takes one record in its order and answers an event, if it is one. A record out of order is
-    /// 32 whatever it holds (T1); a table record in its place is then tested with 19, 20, 21.
+    /// 32 whatever it holds (rule 13.6); a table record in its place is then tested with 19, 20, 21.
     pub fn accept(&mut self, record: Record) -> Result<Option<Event>, Refusal> {
         let finished = self.finished().is_some();
         let in_order = match record {

@@ -13,7 +13,7 @@ use crate::state::{
 use crate::step::{Answer, Event, Outcome};
 use std::collections::BTreeMap;
 
-/// The refusals each kind of event can give, in the order in which it tests them (E2).
+/// The refusals each kind of event can give, in the order in which it tests them (rule 10.2).
 pub const STEP_REFUSALS: [(Kind, &[u16]); 8] = [
     (Kind::Wake, &[1, 2, 5]),
     (Kind::Suspend, &[1, 2, 6]),

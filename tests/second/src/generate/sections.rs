@@ -10,7 +10,7 @@ use crate::bound::{
 use crate::refusal::Refusal;
 use crate::state::{ResourceNumber, TaskNumber, RESOURCE_LIMIT};
 
-/// Numbers past any count, for a table of bytes too, where 255 is no parent (X4).
+/// Numbers past any count, for a table of bytes too, where 255 is no parent (docs/STATE.md).
 const LARGEST_STRAY_NUMBER: u16 = 254;
 /// Far more than it ever took to find a question with one fault.
 const ATTEMPTS: u32 = 100_000;

@@ -1,9 +1,9 @@
-//! When a state is sound (document 01, "A state is sound when"), clause by clause, so that one can
-//! ask which clauses a given state breaks.
+//! When a state is sound (rules 4.1 to 4.16), clause by clause, so that one can ask which clauses a
+//! given state breaks.
 //!
 //! Assumes nothing of the state. Counts out of range break their own clause; the other clauses
-//! then speak of the entries that the arrays have. That a waiting task isn't suspended needs no
-//! clause, as a task is in one of three modes (U8).
+//! then speak of the entries that the arrays have. That who waits does not sleep needs no clause, as
+//! a task is in one of three modes (rule 2.2).
 
 use super::{
     existing_bits, Mode, Phase, Reservation, ResourceNumber, Server, ServerNumber, State,
@@ -133,7 +133,7 @@ fn resources_in_range(state: &State) -> bool {
     usize::from(state.resources) <= RESOURCE_LIMIT
 }
 
-/// The clock's limit belongs to the sizes (U2).
+/// The clock's limit belongs to the sizes (rule 4.1).
 fn clock_in_range(state: &State) -> bool {
     state.clock <= CLOCK_LIMIT
 }
@@ -156,7 +156,7 @@ fn declared_sets_in_range(state: &State) -> bool {
         .all(|task| state[task].declared & !existing == 0)
 }
 
-/// "Each deadline ≤ clock + P", with no lower bound but 0 (U3).
+/// One period from now at the latest, with no lower bound but 0 (rule 4.3).
 fn deadlines_within_period(state: &State) -> bool {
     state.server_numbers().all(|server| {
         let latest = u64::from(state.clock) + u64::from(state[server].period);
@@ -180,7 +180,8 @@ fn processors_suffice(state: &State) -> bool {
     state.running_count() <= usize::from(state.processors)
 }
 
-/// A resource is on a task's stack, once, exactly when that task owns it; the order is free (U6).
+/// A resource is on a task's stack, once, exactly when that task owns it; the order is free
+/// (rule 4.8).
 fn stacks_agree_with_owners(state: &State) -> bool {
     let mut owned = [0u16; TASK_LIMIT];
     for resource in state.resource_numbers() {
@@ -198,7 +199,8 @@ fn stacks_agree_with_owners(state: &State) -> bool {
     })
 }
 
-/// A task is in a resource's queue, once, exactly when it waits for it; the order is free (U6).
+/// A task is in a resource's queue, once, exactly when it waits for it; the order is free
+/// (rule 4.9).
 fn queues_agree_with_waits(state: &State) -> bool {
     let mut awaiting = [0u16; RESOURCE_LIMIT];
     for task in state.task_numbers() {
@@ -250,7 +252,7 @@ fn awaited_are_declared(state: &State) -> bool {
     })
 }
 
-/// A chain that takes as many links as there are tasks meets a task twice (U9).
+/// A chain that takes as many links as there are tasks meets a task twice (rule 4.12).
 fn no_chain_closes(state: &State) -> bool {
     state.task_numbers().all(|start| {
         let mut task = start;
@@ -264,7 +266,7 @@ fn no_chain_closes(state: &State) -> bool {
     })
 }
 
-/// "A server not Recharging is Idle exactly when the task it serves is suspended."
+/// Rule 4.13.
 fn idle_exactly_when_served_sleeps(state: &State, served: &Served) -> bool {
     state.server_numbers().all(|server| {
         let task = served.by(server);
@@ -277,7 +279,7 @@ fn idle_exactly_when_served_sleeps(state: &State, served: &Served) -> bool {
     })
 }
 
-/// "A task executes only in a Running server that serves it."
+/// Rule 4.14.
 fn executes_only_where_served(state: &State, served: &Served) -> bool {
     state.task_numbers().all(|task| match state[task].runs {
         None => true,
@@ -289,8 +291,8 @@ fn executes_only_where_served(state: &State, served: &Served) -> bool {
     })
 }
 
-/// "Each task served by some Running server executes in exactly one": the record of where a task
-/// executes holds one server at most, so it is left to ask that it holds one.
+/// Rule 4.15: the record of where a task executes holds one server at most, so it is left to ask
+/// that it holds one.
 fn served_by_running_executes(state: &State, served: &Served) -> bool {
     state.server_numbers().all(|server| {
         let task = served.by(server);

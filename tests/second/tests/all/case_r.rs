@@ -1,6 +1,7 @@
-//! Case R of document 01, to the byte, and its last state with the clock moved.
+//! Case R, the worked example that came with the rules, to the byte, and its last state with the
+//! clock moved.
 //!
-//! Assumes nothing; `case_r.listing` is document 01's listing.
+//! Assumes nothing; `case_r.listing` is the listing that came with it.
 
 use super::bench::*;
 use second::generate::runs::Run;

@@ -1,4 +1,4 @@
-//! The other marked examples of document 01.
+//! The other examples that the owner marked.
 //!
 //! Assumes nothing.
 

@@ -1,7 +1,7 @@
 //! Fig. 5 of document 004, written out with its permutations, beside the bound of this program,
 //! which chooses an order task by task.
 //!
-//! Assumes a table in range. It is followed as document 01 has it, with line 27 as printed, or with
+//! Assumes a table in range. It is followed as rule 12.7 has it, with line 27 as printed, or with
 //! the last greatest section instead of the first; the generated tables tell these apart.
 
 use super::bench::*;
@@ -149,7 +149,7 @@ fn permutations(items: &[TaskNumber]) -> Vec<Vec<TaskNumber>> {
     all
 }
 
-/// "Testing line 27 as printed: task 0 above would get 7."
+/// Line 27 with the set on entry, as the figure prints it, gives task 0 a bound of 7 (rule 12.7).
 #[test]
 fn line_twenty_seven_as_printed_gives_seven() {
     let table = section_table(

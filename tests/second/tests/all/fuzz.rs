@@ -1,6 +1,6 @@
 //! Long random runs, from fresh and from given sound states, with what must hold after each event.
 //!
-//! Assumes nothing. Rule H is told here by its sentences, one after the other, from the states
+//! Assumes nothing. Rule H is told here step by step (rules 6.1 to 6.3), from the states
 //! before and after an event, and compared with what the step did.
 
 use second::generate::events::{next_event, Manner};
@@ -30,7 +30,7 @@ fn runs_from_fresh() {
             if let (Event::Elapse(ticks), Ok(_)) = (event, answer) {
                 executed_ticks += u64::from(ticks) * executing_tasks(&before);
             }
-            // Whoever executed a task when it went to sleep is Idle still (F1).
+            // Whoever executed a task when it went to sleep is Idle still.
             let woke_nobody = matches!((event, answer), (Event::Wake(_), Ok(Outcome::Ok(0))));
             assert!(!woke_nobody, "seed {seed}");
             assert_eq!(total_own_and_lent(&state), executed_ticks, "seed {seed}");

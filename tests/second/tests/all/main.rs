@@ -1,5 +1,5 @@
-//! The tests of this program: case R, the examples and slips of document 01, the readings that can
-//! be tested, the stored traces, the table of refusals, the programs, states in bytes, and long
+//! The tests of this program: case R, the marked examples and known slips, the rules that could be
+//! read otherwise, the stored traces, the table of refusals, the programs, states in bytes, and long
 //! random runs.
 //!
 //! Assumes nothing. `bench.rs` holds the words that the other files are written in.
@@ -13,10 +13,10 @@ mod generators;
 mod image;
 mod planners;
 mod programs;
-mod readings_bound;
-mod readings_events;
-mod readings_state;
-mod readings_trace;
 mod refusal_table;
+mod rules_bound;
+mod rules_events;
+mod rules_state;
+mod rules_trace;
 mod slips;
 mod stored;

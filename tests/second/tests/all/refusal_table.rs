@@ -1,4 +1,4 @@
-//! The table of `docs/REFUSALS.md` has document 01's numbers, each once, in order, and says for each
+//! The table of `docs/REFUSALS.md` has the rules' numbers, each once, in order, and says for each
 //! what it is called, when it comes and what to do.
 //!
 //! Assumes that `refusal.rs` has a line `Name = number,` for each refusal.
@@ -19,7 +19,7 @@ pub fn rows() -> Vec<(u16, &'static str)> {
 }
 
 #[test]
-fn the_table_has_document_01s_numbers() {
+fn the_table_has_the_rules_numbers() {
     let values = REFUSALS.lines().filter_map(|line| line.split_once(" = "));
     let numbers: Vec<u16> = values
         .filter_map(|(_, value)| value.strip_suffix(',')?.parse().ok())

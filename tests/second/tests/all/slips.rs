@@ -1,13 +1,12 @@
-//! The slips that sank other builds (document 01).
+//! Slips that other builds of this layer made.
 //!
-//! Assumes nothing. The third slip, line 27 as printed, stands in `generators.rs` beside the bound
-//! that tests the set on entry.
+//! Assumes nothing. A third one, line 27 as printed, stands in `figure_five.rs`.
 
 use super::bench::*;
 use second::state::{Execution, Phase};
 use second::step::Outcome;
 
-/// "A passes resource 1 to B, who holds 2, for which C waits; C's server must now serve B."
+/// Rule 7.10: what waits behind the heir, though for another resource, goes to the heir too.
 #[test]
 fn unlock_moves_whole_chains() {
     let (a, b, c) = (0, 1, 2);
@@ -40,7 +39,7 @@ fn executor_goes_along_a_whole_chain() {
     assert_eq!(machine.executor(a), None);
 }
 
-/// "Sending a releasing task home to a server that is Recharging."
+/// Rule 6.3: a task that gave its server away goes to Running servers only.
 #[test]
 fn releasing_task_is_not_sent_to_a_recharging_server() {
     let (holder, waiter) = (0, 1);

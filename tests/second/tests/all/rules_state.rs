@@ -1,4 +1,4 @@
-//! The readings U1 to U11 of the state and soundness, and X2 of the chain end.
+//! The rules on the state, soundness and the chain end where they could be read otherwise.
 //!
 //! Assumes nothing.
 
@@ -22,8 +22,9 @@ fn broken_by(change: impl Fn(&mut State)) -> Vec<Clause> {
     state.broken_clauses()
 }
 
+/// Rule 4.14.
 #[test]
-fn u1_executor_must_be_running_and_serving() {
+fn executor_must_be_running_and_serving() {
     let wrong = [Clause::ExecutesOnlyWhereServed];
     assert_eq!(
         broken_by(|state| state[task(2)].runs = Some(server(2))),
@@ -37,8 +38,9 @@ fn u1_executor_must_be_running_and_serving() {
     assert_eq!(broken_by(|state| state[task(1)].runs = None), nobody);
 }
 
+/// Rule 4.1.
 #[test]
-fn u2_sizes_include_the_clock() {
+fn sizes_include_the_clock() {
     let past_limit = |state: &mut State| state.clock = CLOCK_LIMIT + 1;
     assert_eq!(broken_by(past_limit), [Clause::ClockInRange]);
     assert_eq!(broken_by(|state| state.clock = CLOCK_LIMIT), []);
@@ -46,16 +48,18 @@ fn u2_sizes_include_the_clock() {
     assert_eq!(broken_by(swapped), [Clause::ReservationsInRange]);
 }
 
+/// Rule 4.3.
 #[test]
-fn u3_deadlines_may_be_long_past() {
+fn deadlines_may_be_long_past() {
     assert_eq!(broken_by(|state| state[server(0)].deadline = 0), []);
     assert_eq!(broken_by(|state| state[server(0)].deadline = 12), []);
     let late = |state: &mut State| state[server(0)].deadline = 13;
     assert_eq!(broken_by(late), [Clause::DeadlinesWithinPeriod]);
 }
 
+/// Rule 4.13.
 #[test]
-fn u4_idle_goes_by_the_chain_end() {
+fn idle_goes_by_the_chain_end() {
     let mut machine = Machine {
         state: two_holders(),
     };
@@ -77,8 +81,9 @@ fn u4_idle_goes_by_the_chain_end() {
     );
 }
 
+/// Rule 4.16.
 #[test]
-fn u5_accounts_and_their_sum() {
+fn accounts_and_their_sum() {
     let too_much = |state: &mut State| state[task(2)].executed = 4;
     assert_eq!(broken_by(too_much), [Clause::AccountsWithinClock]);
     let sums: [fn(&mut State); 2] = [
@@ -102,8 +107,9 @@ fn u5_accounts_and_their_sum() {
     assert_eq!(broken_by(unequal_totals), []);
 }
 
+/// Rules 4.8, 4.9.
 #[test]
-fn u6_orders_are_free_and_membership_is_exact() {
+fn orders_are_free_and_membership_is_exact() {
     assert_eq!(broken_by(|state| state[task(0)].held.swap(0, 1)), []);
     let stacks = [Clause::StacksAgreeWithOwners];
     let twice = |state: &mut State| state[task(0)].held[1] = resource(0);
@@ -127,8 +133,9 @@ fn u6_orders_are_free_and_membership_is_exact() {
     assert_eq!(broken_by(unowned), [Clause::UnownedHaveNoQueue]);
 }
 
+/// Rule 4.7.
 #[test]
-fn u6_a_stack_is_no_deeper_than_the_resources() {
+fn a_stack_is_no_deeper_than_the_resources() {
     let mut machine = Machine::new(1, 16, &[(9, 9)]);
     machine.start(&[0]);
     for number in 0..16 {
@@ -139,8 +146,9 @@ fn u6_a_stack_is_no_deeper_than_the_resources() {
     assert_eq!(broken, [Clause::StacksAgreeWithOwners]);
 }
 
+/// Rule 4.9.
 #[test]
-fn u6_a_waiter_stands_in_its_queue_once() {
+fn a_waiter_stands_in_its_queue_once() {
     let mut machine = Machine {
         state: two_holders(),
     };
@@ -151,8 +159,9 @@ fn u6_a_waiter_stands_in_its_queue_once() {
     assert_eq!(broken, [Clause::QueuesAgreeWithWaits]);
 }
 
+/// Rule 1.7.
 #[test]
-fn u7_u10_unread_places_may_hold_anything() {
+fn unread_places_may_hold_anything() {
     let stray = |state: &mut State| {
         state[task(0)].held[2] = resource(99);
         state[resource(0)].queue[0] = task(99);
@@ -167,8 +176,9 @@ fn u7_u10_unread_places_may_hold_anything() {
     assert_eq!(broken_by(past_counts), [Clause::ExecutesOnlyWhereServed]);
 }
 
+/// Rule 1.7.
 #[test]
-fn u7_entries_past_the_counts_are_not_changed() {
+fn entries_past_the_counts_are_not_changed() {
     let mut state = two_holders();
     state[task(3)].runs = Some(server(99));
     state[server(3)].budget = 77;
@@ -178,8 +188,9 @@ fn u7_entries_past_the_counts_are_not_changed() {
     assert_eq!(machine.state[server(3)].budget, 77);
 }
 
+/// Rules 2.2, 2.3.
 #[test]
-fn u8_suspended_task_may_hold_and_be_waited_for() {
+fn suspended_task_may_hold_and_be_waited_for() {
     let mut machine = Machine {
         state: two_holders(),
     };
@@ -188,8 +199,9 @@ fn u8_suspended_task_may_hold_and_be_waited_for() {
     assert_eq!(machine.state[resource(1)].waiting, 1);
 }
 
+/// Rule 4.12.
 #[test]
-fn u9_chains_that_close() {
+fn chains_that_close() {
     let waits_for_itself = |state: &mut State| {
         state[task(1)].mode = Mode::Waiting(resource(2));
         state[resource(2)].queue[0] = task(1);
@@ -202,8 +214,9 @@ fn u9_chains_that_close() {
     assert_eq!(refusal, Err(Refusal::StateNotSound));
 }
 
+/// Rule 5.1.
 #[test]
-fn u11_rows_past_the_tasks_are_ignored() {
+fn rows_past_the_tasks_are_ignored() {
     let mut table: Table = open_table(1, 1, &[(5, 9)]);
     let (clean, _) = fresh(&table);
     table.rows[1].declared = 0xffff;
@@ -211,8 +224,9 @@ fn u11_rows_past_the_tasks_are_ignored() {
     assert_eq!(clean[server(1)].quota, 0);
 }
 
+/// Rule 5.5.
 #[test]
-fn u11_refused_fresh_is_of_no_use() {
+fn refused_fresh_is_of_no_use() {
     let mut table: Table = open_table(1, 1, &[(5, 9), (6, 5)]);
     let (state, answer) = fresh(&table);
     assert_eq!(answer, Err(Refusal::QuotaOrPeriodOutOfRange));
@@ -227,8 +241,9 @@ fn u11_refused_fresh_is_of_no_use() {
     assert_eq!(answer, Err(Refusal::CountsOutOfRange));
 }
 
+/// Rule 3.2.
 #[test]
-fn x2_chain_end_of_any_number_in_any_state() {
+fn chain_end_of_any_number_in_any_state() {
     let mut state = two_holders();
     assert_eq!(state.chain_end(task(3)), task(3));
     assert_eq!(state.chain_end(task(65535)), task(65535));
@@ -240,6 +255,7 @@ fn x2_chain_end_of_any_number_in_any_state() {
     assert_eq!(state.chain_end(task(2)), TaskNumber(1));
 }
 
+/// Rule 3.4.
 #[test]
 fn what_a_server_does() {
     let mut machine = Machine {

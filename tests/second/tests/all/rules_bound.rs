@@ -1,4 +1,4 @@
-//! The readings B1 to B6 of the interference bound.
+//! The rules on the interference bound where they could be read otherwise.
 //!
 //! Assumes nothing.
 
@@ -20,8 +20,9 @@ fn bound_of(table: &SectionTable, number: u16) -> (u64, u32) {
     (ticks, weighings)
 }
 
+/// Rule 12.8.
 #[test]
-fn b1_weighings_of_nested_calculations_count_each_time() {
+fn weighings_of_nested_calculations_count_each_time() {
     // Three tasks on one resource around task 0: an order's tree weighs 3 + 3*2 + 3*2*1 sections.
     let sections = [
         (0, 0, 1, None),
@@ -32,8 +33,9 @@ fn b1_weighings_of_nested_calculations_count_each_time() {
     assert_eq!(bound_of(&section_table(4, &sections), 0), (3, 15));
 }
 
+/// Rule 12.5.
 #[test]
-fn b2_only_tasks_with_a_section_on_that_very_resource_block() {
+fn only_tasks_with_a_section_on_that_very_resource_block() {
     // Task 2 blocks task 1 inside its section, and so task 0 through it, but not directly.
     let table = section_table(
         3,
@@ -72,8 +74,9 @@ fn two_sections_of_one_worth(inside_zero_first: bool) -> SectionTable {
     section_table(4, &sections)
 }
 
+/// Rule 12.5.
 #[test]
-fn b3_first_greatest_decides_what_is_held() {
+fn first_greatest_decides_what_is_held() {
     // The section inside 0 counts, so task 2 gives nothing after it; the order 2, 1 gives 4 + 3.
     let inside_zero = two_sections_of_one_worth(true);
     assert_eq!(bound_of(&inside_zero, 0), (7, 8));
@@ -82,8 +85,9 @@ fn b3_first_greatest_decides_what_is_held() {
     assert_eq!(bound_of(&inside_one, 0), (9, 8));
 }
 
+/// Rule 12.9.
 #[test]
-fn b4_order_of_the_table_tests() {
+fn order_of_the_table_tests() {
     assert_eq!(refusal_of(&section_table(0, &[])), Some(40));
     assert_eq!(refusal_of(&section_table(7, &[])), Some(40));
     assert_eq!(
@@ -114,8 +118,9 @@ fn b4_order_of_the_table_tests() {
     assert_eq!(refusal_of(&section_table(1, &long_children)), Some(43));
 }
 
+/// Rule 12.9.
 #[test]
-fn b4_table_faults_are_told_before_task_and_allowance() {
+fn table_faults_are_told_before_task_and_allowance() {
     let too_long = section_table(1, &[(0, 0, 5, None), (0, 1, 6, Some(0))]);
     assert_eq!(bound(&too_long, task(9), 0), Err(Refusal::ChildrenTooLong));
     let good = section_table(1, &[]);
@@ -125,8 +130,9 @@ fn b4_table_faults_are_told_before_task_and_allowance() {
     assert_eq!(bound(&good, task(0), MOST + 1), out_of_range);
 }
 
+/// Rule 12.9.
 #[test]
-fn b5_allowance_is_compared_with_the_whole_tree() {
+fn allowance_is_compared_with_the_whole_tree() {
     let table = section_table(2, &[(0, 0, 1, None), (1, 0, 6, None), (1, 0, 5, None)]);
     assert_eq!(bound_of(&table, 0), (6, 2));
     assert_eq!(
@@ -142,8 +148,9 @@ fn b5_allowance_is_compared_with_the_whole_tree() {
     );
 }
 
+/// Rule 12.5.
 #[test]
-fn b6_nested_calculation_gets_held_as_it_stands() {
+fn nested_calculation_gets_held_as_it_stands() {
     // Task 1's section on 0 has one on 2 inside it; task 2's section on 2 is inside 1; task 3's
     // section on 0 comes with nothing. Whether task 2 can block task 1 there is told by Held.
     let sections = [

@@ -1,4 +1,4 @@
-//! The readings E1 to E13 of the events, H1 to H5 of rule H, and M1 and M2 of the meter rows.
+//! The rules on events, rule H and meter rows where they could be read otherwise.
 //!
 //! Assumes nothing.
 
@@ -8,8 +8,9 @@ use second::refusal::Refusal;
 use second::state::{Mode, Phase, Table, CLOCK_LIMIT};
 use second::step::Outcome;
 
+/// Rule 10.2.
 #[test]
-fn e1_executing_in_an_inherited_server_is_executing() {
+fn executing_in_an_inherited_server_is_executing() {
     let mut machine = Machine::new(2, 2, &[(3, 9), (8, 9)]);
     machine.start(&[0, 1]);
     machine.accept_all(&[lock(0, 0), lock(1, 0), elapse(3)]);
@@ -18,8 +19,9 @@ fn e1_executing_in_an_inherited_server_is_executing() {
     assert_eq!(machine.refuse(suspend(1)), 6);
 }
 
+/// Rule 10.2.
 #[test]
-fn e1_not_executing() {
+fn not_executing() {
     let mut machine = Machine::new(1, 1, &[(3, 9), (3, 9)]);
     assert_eq!(machine.refuse(suspend(0)), 6);
     machine.accept(wake(0));
@@ -36,8 +38,9 @@ fn closed_machine() -> Machine {
     Machine::of(&table)
 }
 
+/// Rule 10.2.
 #[test]
-fn e2_order_of_refusals() {
+fn order_of_refusals() {
     let mut machine = closed_machine();
     assert_eq!(machine.refuse(lock(2, 2)), 2);
     assert_eq!(machine.refuse(lock(0, 2)), 3);
@@ -60,8 +63,9 @@ fn e2_order_of_refusals() {
     assert_eq!(machine.refuse(elapse(6)), 12);
 }
 
+/// Rule 10.2.
 #[test]
-fn e3_chains_of_any_length_close() {
+fn chains_of_any_length_close() {
     let rows = [(9, 9); 5];
     let mut machine = Machine::new(5, 5, &rows);
     machine.start(&[0, 1, 2, 3, 4]);
@@ -74,8 +78,9 @@ fn e3_chains_of_any_length_close() {
     assert_eq!(machine.refuse(lock(4, 4)), 15);
 }
 
+/// Rule 10.3.
 #[test]
-fn e4_unlock_of_what_is_not_owned() {
+fn unlock_of_what_is_not_owned() {
     let mut machine = closed_machine();
     machine.start(&[1]);
     assert_eq!(machine.refuse(unlock(1, 0)), 17);
@@ -87,8 +92,9 @@ fn e4_unlock_of_what_is_not_owned() {
     assert_eq!(machine.refuse(unlock(0, 0)), 18);
 }
 
+/// Rule 10.2.
 #[test]
-fn e5_spinners_take_processors() {
+fn spinners_take_processors() {
     let mut machine = Machine::new(2, 1, &[(9, 9), (9, 9), (9, 9)]);
     machine.start(&[0, 1]);
     machine.accept_all(&[lock(0, 0), lock(1, 0), wake(2)]);
@@ -106,8 +112,9 @@ fn sleeping_holder() -> Machine {
     machine
 }
 
+/// Rule 7.1.
 #[test]
-fn e6_wake_counts_inherited_servers_and_refills_each() {
+fn wake_counts_inherited_servers_and_refills_each() {
     let mut machine = sleeping_holder();
     machine.accept(elapse(1));
     assert_eq!(machine.accept(wake(0)), Outcome::Ok(2));
@@ -117,8 +124,9 @@ fn e6_wake_counts_inherited_servers_and_refills_each() {
     assert_eq!(machine.state[server(1)].deadline, 13);
 }
 
+/// Rule 7.1.
 #[test]
-fn e6_recharging_servers_stay_as_they_are() {
+fn recharging_servers_stay_as_they_are() {
     let mut machine = Machine::new(2, 1, &[(9, 20), (3, 10)]);
     machine.start(&[0, 1]);
     machine.accept_all(&[lock(0, 0), lock(1, 0), elapse(3)]);
@@ -128,8 +136,9 @@ fn e6_recharging_servers_stay_as_they_are() {
     assert_eq!(machine.state[server(1)].budget, 0);
 }
 
+/// Rule 7.2.
 #[test]
-fn e7_suspend_leaves_budget_and_deadline() {
+fn suspend_leaves_budget_and_deadline() {
     let machine = sleeping_holder();
     assert_eq!(machine.state[server(0)].budget, 7);
     assert_eq!(machine.state[server(1)].budget, 3);
@@ -137,8 +146,9 @@ fn e7_suspend_leaves_budget_and_deadline() {
     assert_eq!(machine.state[server(1)].phase, Phase::Idle);
 }
 
+/// Rule 7.6.
 #[test]
-fn e8_recharge_to_idle_refills_too() {
+fn recharge_to_idle_refills_too() {
     let mut machine = Machine::new(2, 1, &[(9, 20), (3, 10)]);
     machine.start(&[0, 1]);
     machine.accept_all(&[lock(0, 0), lock(1, 0), elapse(3), suspend(0)]);
@@ -149,8 +159,9 @@ fn e8_recharge_to_idle_refills_too() {
     assert_eq!(machine.state[server(1)].deadline, 23);
 }
 
+/// Rule 7.5.
 #[test]
-fn e9_elapse_with_nobody_running_and_up_to_the_limit() {
+fn elapse_with_nobody_running_and_up_to_the_limit() {
     let mut machine = Machine::new(1, 0, &[(5, 9)]);
     assert_eq!(machine.accept(elapse(7)), Outcome::Ok(0));
     assert_eq!(machine.state.clock, 7);
@@ -161,8 +172,9 @@ fn e9_elapse_with_nobody_running_and_up_to_the_limit() {
     assert_eq!(machine.state[server(0)].deadline, CLOCK_LIMIT + 9);
 }
 
+/// Rule 7.5.
 #[test]
-fn e10_exhausted_servers_recharge_together_before_rule_h() {
+fn exhausted_servers_recharge_together_before_rule_h() {
     let mut machine = Machine::new(3, 1, &[(4, 9), (4, 9), (6, 9)]);
     machine.start(&[0, 1, 2]);
     machine.accept_all(&[lock(0, 0), lock(1, 0), lock(2, 0)]);
@@ -174,8 +186,9 @@ fn e10_exhausted_servers_recharge_together_before_rule_h() {
     assert_eq!(machine.state[server(2)].lent, 0);
 }
 
+/// Rule 7.4.
 #[test]
-fn e11_preempt_answers_whether_a_task_passed() {
+fn preempt_answers_whether_a_task_passed() {
     let mut machine = Machine::new(2, 1, &[(9, 9), (9, 9)]);
     machine.start(&[0, 1]);
     machine.accept_all(&[lock(0, 0), lock(1, 0)]);
@@ -186,8 +199,9 @@ fn e11_preempt_answers_whether_a_task_passed() {
     assert_eq!(machine.executor(0), None);
 }
 
+/// Rule 7.8.
 #[test]
-fn e12_lock_at_a_sleeping_end_makes_servers_idle() {
+fn lock_at_a_sleeping_end_makes_servers_idle() {
     let mut machine = sleeping_holder();
     machine.start(&[2]);
     machine.accept(elapse(1));
@@ -199,8 +213,9 @@ fn e12_lock_at_a_sleeping_end_makes_servers_idle() {
     assert_eq!(machine.accept(wake(0)), Outcome::Ok(3));
 }
 
+/// Rule 7.10.
 #[test]
-fn e13_unlock_hands_over_in_order() {
+fn unlock_hands_over_in_order() {
     let mut machine = Machine::new(4, 2, &[(9, 9); 4]);
     machine.start(&[0, 1, 2, 3]);
     machine.accept_all(&[lock(0, 1), lock(2, 0), lock(2, 1), lock(1, 1), lock(3, 1)]);
@@ -213,13 +228,14 @@ fn e13_unlock_hands_over_in_order() {
     assert_eq!(machine.accept(unlock(2, 1)), Outcome::Passed(task(1)));
     assert_eq!(machine.accept(unlock(1, 1)), Outcome::Passed(task(3)));
     assert_eq!(machine.accept(unlock(3, 1)), Outcome::Freed(resource(1)));
-    // Places given up are 0 (U7).
+    // Places given up are 0 (rule 2.6).
     assert_eq!(machine.state[resource(1)].queue, [task(0); 16]);
     assert_eq!(machine.state[task(3)].held, [resource(0); 16]);
 }
 
+/// Rule 6.1.
 #[test]
-fn h1_an_executor_that_lost_its_task_has_no_claim() {
+fn an_executor_that_lost_its_task_has_no_claim() {
     let mut machine = Machine::new(3, 1, &[(9, 9), (4, 9), (5, 9)]);
     machine.start(&[0, 1, 2]);
     machine.accept_all(&[lock(0, 0), lock(1, 0), lock(2, 0), preempt(0)]);
@@ -228,8 +244,9 @@ fn h1_an_executor_that_lost_its_task_has_no_claim() {
     assert_eq!(machine.executor(0), Some(2));
 }
 
+/// Rule 6.2.
 #[test]
-fn h2_executor_of_the_acting_task_takes_the_chain_end() {
+fn executor_of_the_acting_task_takes_the_chain_end() {
     let mut machine = Machine::new(2, 1, &[(9, 9), (9, 9)]);
     machine.start(&[0, 1]);
     machine.accept_all(&[lock(0, 0), preempt(0)]);
@@ -238,8 +255,9 @@ fn h2_executor_of_the_acting_task_takes_the_chain_end() {
     assert_eq!(machine.executor(1), None);
 }
 
+/// Rule 6.2.
 #[test]
-fn h2_executor_stays_with_the_releaser_off_the_chain() {
+fn executor_stays_with_the_releaser_off_the_chain() {
     // Task 0 executes in server 2, which waits for its other resource, and passes 0 to task 1.
     let mut machine = Machine::new(3, 2, &[(9, 9), (3, 9), (9, 9)]);
     machine.start(&[0, 1, 2]);
@@ -250,8 +268,9 @@ fn h2_executor_stays_with_the_releaser_off_the_chain() {
     assert_eq!(machine.executor(1), Some(1));
 }
 
+/// Rule 6.2.
 #[test]
-fn h2_executor_takes_the_new_owner_before_a_richer_spinner() {
+fn executor_takes_the_new_owner_before_a_richer_spinner() {
     let mut machine = Machine::new(3, 1, &[(9, 9), (4, 9), (8, 9)]);
     machine.start(&[0, 1]);
     machine.accept_all(&[lock(0, 0), lock(1, 0), preempt(0)]);
@@ -262,8 +281,9 @@ fn h2_executor_takes_the_new_owner_before_a_richer_spinner() {
     assert_eq!(machine.executor(1), Some(1));
 }
 
+/// Rule 6.3.
 #[test]
-fn h3_releaser_left_by_its_server_gets_the_most_budget() {
+fn releaser_left_by_its_server_gets_the_most_budget() {
     // Task 0 executes in server 1, the next owner's. Of its own server and that of task 2, which
     // waits for its other resource, the richer one takes it.
     for (own_quota, expected) in [(9, 0), (7, 2), (8, 0)] {
@@ -280,8 +300,9 @@ fn h3_releaser_left_by_its_server_gets_the_most_budget() {
     }
 }
 
+/// Rules 9.1, 9.2.
 #[test]
-fn m1_rows_written_are_counted_and_others_stay() {
+fn rows_written_are_counted_and_others_stay() {
     let mut machine = Machine::new(1, 0, &[(5, 9), (6, 9)]);
     machine.start(&[1]);
     machine.accept(elapse(2));
@@ -305,8 +326,9 @@ fn m1_rows_written_are_counted_and_others_stay() {
     assert_eq!(just_enough, Ok(Outcome::Ok(2)));
 }
 
+/// Rule 9.2.
 #[test]
-fn m2_refused_rows_are_not_written() {
+fn refused_rows_are_not_written() {
     let mut machine = Machine::new(1, 0, &[(5, 9), (6, 9)]);
     let mut rows = [MeterRow::default(); 1];
     let answer = read_meters(&machine.state, &mut rows);

@@ -1,4 +1,5 @@
-//! The readings T1 to T13 of "Trace and replay", each with the files that show it.
+//! The rules on traces and replay where they could be read otherwise, each with the files that show
+//! it.
 //!
 //! Assumes nothing.
 
@@ -24,31 +25,35 @@ fn assert_stops(pieces: &[Vec<u8>], piece: usize, refusal: u16, lines: &str) {
     assert_eq!(listing(pieces), expected);
 }
 
+/// Rule 13.6.
 #[test]
-fn t1_out_of_order_is_told_before_bad_values() {
+fn out_of_order_is_told_before_bad_values() {
     assert_stops(&[counts(1, 1, 1), counts(0, 0, 0)], 1, 32, "");
     assert_stops(&[row(0, 0, 0)], 0, 32, "");
     assert_stops(&small_file(&[row(0, 0, 0)]), 2, 32, "");
     assert_stops(&small_file(&[counts(0, 0, 0)]), 2, 32, "");
 }
 
+/// Rule 13.6.
 #[test]
-fn t2_malformed_is_told_before_order() {
+fn malformed_is_told_before_order() {
     assert_stops(&[record(1, &[0])], 0, 31, "");
     assert_stops(&[record(9, &[])], 0, 31, "");
     assert_stops(&[record(17, &[0; 9])], 0, 31, "");
     assert_stops(&[counts(1, 1, 1), record(16, &[])], 1, 31, "");
 }
 
+/// Rule 13.5.
 #[test]
-fn t3_stray_byte() {
+fn stray_byte() {
     assert_stops(&[vec![7]], 0, 30, "");
     assert_stops(&[counts(1, 1, 1), vec![0]], 1, 30, "");
     assert_stops(&small_file(&[event(wake(0)), vec![0]]), 3, 30, "1 ok 1\n");
 }
 
+/// Rule 13.5.
 #[test]
-fn t4_length_below_two_then_cut_body_then_kind() {
+fn length_below_two_then_cut_body_then_kind() {
     assert_stops(&[vec![0, 0]], 0, 31, "");
     assert_stops(&[vec![1, 0]], 0, 31, "");
     assert_stops(&[vec![2, 0]], 0, 30, "");
@@ -57,8 +62,9 @@ fn t4_length_below_two_then_cut_body_then_kind() {
     assert_stops(&[vec![255, 255, 16, 0]], 0, 30, "");
 }
 
+/// Rule 14.3.
 #[test]
-fn t5_t6_bad_table_entries_at_their_own_offsets() {
+fn bad_table_entries_at_their_own_offsets() {
     assert_stops(&[counts(9, 1, 0), vec![0]], 0, 19, "");
     let bad_quota = [counts(1, 2, 1), row(1, 1, 0), row(2, 1, 0), vec![0]];
     assert_stops(&bad_quota, 2, 20, "");
@@ -68,8 +74,9 @@ fn t5_t6_bad_table_entries_at_their_own_offsets() {
     assert_stops(&absent, 1, 21, "");
 }
 
+/// Rule 14.4.
 #[test]
-fn t7_table_cut_off_between_records() {
+fn table_cut_off_between_records() {
     assert_stops(&[], 0, 32, "");
     assert_stops(&[counts(1, 1, 1)], 1, 32, "");
     assert_stops(&[counts(1, 2, 1), row(1, 1, 0)], 2, 32, "");
@@ -89,8 +96,9 @@ fn filled_file(size: usize) -> Vec<Vec<u8>> {
     pieces
 }
 
+/// Rule 13.7.
 #[test]
-fn t8_file_of_exactly_the_limit_is_allowed() {
+fn file_of_exactly_the_limit_is_allowed() {
     let most = filled_file(FILE_LIMIT);
     assert_eq!(most.concat().len(), FILE_LIMIT);
     let allowed = listing(&most);
@@ -100,22 +108,25 @@ fn t8_file_of_exactly_the_limit_is_allowed() {
     assert_eq!(listing(&more), "stop 0 33\n");
 }
 
+/// Rule 14.2.
 #[test]
-fn t9_table_without_events() {
+fn table_without_events() {
     let expected = "end 0\nserver 0 idle 4 0 0 0 0\ntask 0 0\n";
     assert_eq!(listing(&small_table()), expected);
 }
 
+/// Rule 14.1.
 #[test]
-fn t10_refused_events_are_numbered_and_large_operands_refused() {
+fn refused_events_are_numbered_and_large_operands_refused() {
     let events = [wake(65535), lock(0, 65535), wake(0), recharge(1)].map(event);
     let expected = "1 refused 2\n2 refused 3\n3 ok 1\n4 refused 2\nend 0\n\
                     server 0 active 4 8 0 0 0\ntask 0 0\n";
     assert_eq!(listing(&small_file(&events)), expected);
 }
 
+/// Rule 13.6.
 #[test]
-fn t11_records_out_of_order() {
+fn records_out_of_order() {
     assert_stops(&[event(wake(0))], 0, 32, "");
     assert_stops(&[counts(1, 1, 1), event(wake(0))], 1, 32, "");
     assert_stops(&small_file(&[row(4, 8, 1)]), 2, 32, "");
@@ -125,16 +136,18 @@ fn t11_records_out_of_order() {
     assert_stops(&late, 3, 32, "1 ok 1\n");
 }
 
+/// Rule 5.4.
 #[test]
-fn t12_declared_bits_against_the_resource_count() {
+fn declared_bits_against_the_resource_count() {
     let all = [counts(1, 1, 16), row(1, 1, 0xffff)];
     assert!(listing(&all).starts_with("end 0\n"));
     assert_stops(&[counts(1, 1, 15), row(1, 1, 0x8000)], 1, 21, "");
     assert_stops(&[counts(1, 1, 0), row(1, 1, 1)], 1, 21, "");
 }
 
+/// Rule 13.8.
 #[test]
-fn t13_reading_at_the_end_is_neither_record_nor_refusal() {
+fn reading_at_the_end_is_neither_record_nor_refusal() {
     let bytes = event(lock(3, 258));
     let start = Place::start(&bytes);
     let Ok(Reading::Record(read, end)) = start.read() else {
@@ -148,6 +161,7 @@ fn t13_reading_at_the_end_is_neither_record_nor_refusal() {
     assert_eq!(reading, Err(Refusal::RecordMalformed));
 }
 
+/// Rule 14.3.
 #[test]
 fn earliest_fault_is_told_and_lines_already_printed_stay() {
     let pieces = small_file(&[
