@@ -1,4 +1,4 @@
--- What is answered for a table, a task and an allowance, and what each answer says in 01's numbers. Assumes nothing.
+-- What is answered for a table, a task and an allowance (rule 12.9), and what each answer says. Assumes nothing.
 use Prim.Native.Nat.{ℕ}
 use mathlib.Core.Option.{Option, none, some}
 use lib.Dec.{ltb}
@@ -9,7 +9,7 @@ use Rattle.bound.specs.declared.Sections.{Sections}
 use Rattle.bound.specs.Table.{refusal}
 use Rattle.bound.specs.Interference.{Weighed, bound}
 
--- "46 exactly when the weighings exceed the allowance"; "The answer gives the bound and the weighings spent"
+-- the bound and its weighings, or 46 where these are more than the allowance
 abbrev pub within : ℕ → Weighed → Bounded
 within allowance w = if ltb allowance (w .weighings) then Refused 46 else Bound (w .value) (w .weighings)
 
@@ -26,7 +26,7 @@ pub record Said : Type 0 where
   pub bound : ℕ
   pub weighings : ℕ
 
--- "Refusals return bound 0 and weighings 0"
+-- a refusal has neither a bound nor weighings
 abbrev pub said : Bounded → Said
 said (Bound b n) = record { refused = none; bound = b; weighings = n }
 said (Refused n) = record { refused = some n; bound = 0; weighings = 0 }

@@ -38,7 +38,7 @@ unfoldable pub gathered : (ℕ → Weighed → Weighed → Weighed) → (ℕ →
 gathered join give zero = nothing
 gathered join give (suc n) = join n (gathered join give n) (give n)
 
--- "For a task, a set of its sections, a set B of tasks and a set R of resources": by B, the task, what its sections stand in, and R
+-- interference (rule 12.4), by B, the task, what its sections stand in, and R
 abbrev pub Calculation : Type 0
 Calculation = Tasks → ℕ → Parent → Resources → Weighed
 
@@ -46,8 +46,7 @@ Calculation = Tasks → ℕ → Parent → Resources → Weighed
 abbrev pub Weighing : Type 0
 Weighing = Tasks → Resources → ℕ → Weighed
 
--- "one whose outer resources meet Held gives nothing; otherwise its length plus this same calculation on its direct children,
--- with B and that task, and with Held and its outer resources"; "each section weighed .. counts one, refused ones too"
+-- what a section gives in an order (rule 12.5), and one weighing for it whatever it gives (rule 12.8)
 unfoldable pub weighingIf : Bool → Calculation → Sections → Weighing
 weighingIf true same s b held i = weighed 0 none 1
 weighingIf false same s b held i =
@@ -61,11 +60,11 @@ weighing same s b held i = weighingIf (meets (outer s i) held) same s b held i
 abbrev pub isOn : Sections → ℕ → ℕ → ℕ → Bool
 isOn s q x i = eqb (sectionAt s i .task .0) x && eqb (sectionAt s i .resource) q
 
--- "Each task in turn weighs its sections on that resource, by number": section i where it is one of them
+-- section i where it is one that task x weighs for resource q
 unfoldable pub weighedOn : (ℕ → Weighed) → Sections → ℕ → ℕ → ℕ → Weighed
 weighedOn weigh s q x i = if isOn s q x i then weigh i else nothing
 
--- "The first greatest counts": section i against what was found before it
+-- section i against what was found before it, which stays where the two are equal (rule 12.5)
 abbrev pub firstGreatest : ℕ → Weighed → Weighed → Weighed
 firstGreatest i found new =
     let better = ltb (found .value) (new .value) in
@@ -74,23 +73,23 @@ firstGreatest i found new =
 unfoldable pub best : (ℕ → Weighed) → Sections → ℕ → ℕ → Weighed
 best weigh s q x = gathered firstGreatest (weighedOn weigh s q x) (s .count)
 
--- "and its outer resources join Held, which stays if all give nothing"
+-- Held after the task: with the outer resources of the section that counts, or as it was where none gives anything (rule 12.5)
 abbrev pub heldAfter : Sections → Resources → Option ℕ → Resources
 heldAfter s held none = held
 heldAfter s held (some i) = joined held (outer s i)
 
--- "trying each remaining task next, then each remaining after it": task x next; "B doesn't grow along an order (line 23)"
+-- the orders with task x next (rule 12.8); B is the same for all that follows (rule 12.7)
 unfoldable pub triedNext : Weighing → (Tasks → Tasks → Resources → Weighed) → Sections → ℕ → Tasks → Tasks → Resources → ℕ → Weighed
 triedNext weigh after s q b remaining held x =
     let next = best (weigh b held) s q x in
     if has remaining x then both next (after b (without remaining x) (heldAfter s held (next .giver))) else nothing
 
--- "in the order giving the largest sum", `left` being how many tasks remain
+-- the largest sum over all orders (rule 12.5), `left` being how many tasks remain
 unfoldable pub order : ℕ → Weighing → Sections → ℕ → Tasks → Tasks → Resources → Weighed
 order zero weigh s q b remaining held = nothing
 order (suc left) weigh s q b remaining held = gathered (λ x. larger) (triedNext weigh (order left weigh s q) s q b remaining held) taskNumbers
 
--- "the tasks outside B that have a section on c's resource": of section i
+-- the tasks that may block (rule 12.5), with section i's where it is one of them
 unfoldable pub blocker : Sections → ℕ → Tasks → ℕ → Tasks → Tasks
 blocker s q b i found =
     if eqb (sectionAt s i .resource) q && not (has b (sectionAt s i .task .0)) then with found (sectionAt s i .task .0) else found
@@ -98,7 +97,7 @@ blocker s q b i found =
 unfoldable pub blockers : Sections → ℕ → Tasks → Tasks
 blockers s q b = foldTo (s .count) (blocker s q b) noTask
 
--- "Ordering value"; "Held starts as that R", here `entry`; "Printed line 27 tests the set on entry; .. Held .. decides"
+-- the ordering value (rule 12.5); Held begins as `entry` and is what outer resources are tested against (rule 12.7)
 unfoldable pub ordering : ℕ → Calculation → Sections → Tasks → ℕ → Resources → Weighed
 ordering left same s b q entry = order left (weighing same s) s q b (blockers s q b) entry
 
@@ -106,22 +105,22 @@ ordering left same s b q entry = order left (weighing same s) s q b (blockers s 
 abbrev pub isIn : Sections → ℕ → Parent → ℕ → Bool
 isIn s t p c = eqb (sectionAt s c .task .0) t && directlyIn (sectionAt s c .parent) p
 
--- "the ordering value, plus the same calculation on c's direct children, both with R and c's resource": of section c where it stands in p
+-- what section c adds where it stands in p (rule 12.4): both parts have its own resource added to R
 unfoldable pub sumOver : (ℕ → Resources → Weighed) → (Parent → Resources → Weighed) → Sections → ℕ → Parent → Resources → ℕ → Weighed
 sumOver ordered same s t p r c =
     let wider = with r (sectionAt s c .resource) in
     if isIn s t p c then both (ordered (sectionAt s c .resource) wider) (same (Inside c) wider) else nothing
 
--- "sum over the sections c"
+-- the sum of rule 12.4
 unfoldable pub sums : ℕ → (ℕ → Resources → Weighed) → Sections → ℕ → Parent → Resources → Weighed
 sums zero ordered s t p r = nothing
 sums (suc depth) ordered s t p r = gathered (λ c. both) (sumOver ordered (sums depth ordered s t) s t p r) (s .count)
 
--- "The two calculations call one another until tasks and depth run out": `left` tasks are outside B, sections nest to `depth`
+-- the two calculations in turn: `left` tasks are outside B, and sections nest to `depth`
 unfoldable pub level : ℕ → ℕ → Sections → Calculation
 level zero depth s b t p r = nothing
 level (suc left) depth s b t p r = sums depth (ordering (suc left) (level left sectionNumbers s) s b) s t p r
 
--- "Start: outermost sections, B the task itself, R empty"
+-- rule 12.6
 unfoldable pub bound : Sections → ℕ → Weighed
 bound s t = level (s .tasks - 1) sectionNumbers s (with noTask t) t Outermost noResource

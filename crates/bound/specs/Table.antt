@@ -1,4 +1,4 @@
--- The table of sections (01, "Interference bound"): a section's outer resources, and the refusals 40 to 45 in 01's order.
+-- The table of sections: a section's outer resources (rule 12.3), and the refusals 40 to 45 in the order of rule 12.9.
 -- Entries past `count` are not read. Assumes nothing.
 use Prim.Native.Nat.{ℕ, zero, suc}
 use mathlib.Core.Bool.{Bool, true, false, not, _&&_}
@@ -42,27 +42,27 @@ around zero s p = noResource
 around (suc n) s Outermost = noResource
 around (suc n) s (Inside p) = with (around n s (sectionAt s p .parent)) (sectionAt s p .resource)
 
--- "Outer resources of a section are those of its ancestors": at most 12, since each is an earlier section
+-- rule 12.3; at most 12 sections are around one, since each is an earlier one
 unfoldable pub outer : Sections → ℕ → Resources
 outer s i = around sectionNumbers s (sectionAt s i .parent)
 
--- "1 to 6 tasks, 0 to 12 sections"
+-- the counts of rule 12.1
 abbrev pub countsFit : Sections → Bool
 countsFit s = leb 1 (s .tasks) && leb (s .tasks) taskNumbers && leb (s .count) sectionNumbers
 
--- "a parent (an earlier section of the same task) or none"
+-- the parent of rule 12.1
 abbrev pub parentFits : Sections → ℕ → Parent → Bool
 parentFits s i Outermost = true
 parentFits s i (Inside p) = ltb p i && eqb (sectionAt s p .task .0) (sectionAt s i .task .0)
 
--- "A section has a task, a resource 0 to 15, a length 1 to 1,000,000 .., and a parent"
+-- the section of rule 12.1
 unfoldable pub sectionFits : Sections → ℕ → Bool
 sectionFits s i =
     ltb (sectionAt s i .task .0) (s .tasks) && leb (sectionAt s i .resource) 15
     && leb 1 (sectionAt s i .length) && leb (sectionAt s i .length) million
     && parentFits s i (sectionAt s i .parent)
 
--- "Resources rise strictly from parent to child"
+-- a resource above the parent's: rule 12.2
 abbrev pub above : Sections → ℕ → Parent → Bool
 above s r Outermost = true
 above s r (Inside p) = ltb (sectionAt s p .resource) r
@@ -71,25 +71,25 @@ above s r (Inside p) = ltb (sectionAt s p .resource) r
 unfoldable pub childLength : Sections → ℕ → ℕ → ℕ
 childLength s i c = if directlyIn (sectionAt s c .parent) (Inside i) then sectionAt s c .length else 0
 
--- "children's lengths sum to at most the parent's"
+-- children together no longer than their parent: rule 12.2
 unfoldable pub childrenFit : Sections → ℕ → Bool
 childrenFit s i = leb (sumTo (s .count) (childLength s i)) (sectionAt s i .length)
 
 abbrev pub sectionTests : Sections → ℕ → List (ℕ × Bool)
 sectionTests s i = 41 when not (sectionFits s i) or 42 when not (above s (sectionAt s i .resource) (sectionAt s i .parent)) or accepted
 
--- "41 and 42 by section": what an earlier section is refused for, or else section i
+-- section by section: what an earlier one is refused for, or else section i
 unfoldable pub sectionRefusal : Sections → ℕ → Option ℕ → Option ℕ
 sectionRefusal s i earlier = earlier orElse firstOf (sectionTests s i)
 
--- "40 counts; 41 a section's task, resource, length or parent; 42 resource not above its parent's; 43 children too long"
+-- 40 to 43: rule 12.9
 unfoldable pub tableRefusal : Sections → Option ℕ
 tableRefusal s =
     firstOf (40 when not (countsFit s) or accepted)
     orElse foldTo (s .count) (sectionRefusal s) none
     orElse firstOf (43 when not (allTo (s .count) (childrenFit s)) or accepted)
 
--- "44 no such task; 45 allowance not 1 to 1,000,000"
+-- 44 and 45 after these: rule 12.9
 unfoldable pub refusal : Sections → ℕ → ℕ → Option ℕ
 refusal s t allowance =
     tableRefusal s

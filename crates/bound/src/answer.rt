@@ -1,4 +1,4 @@
-// The interference bound of a task, with an allowance of weighings (01, "Interference bound"). Any table whatever is taken. Assumes nothing.
+// The interference bound of a task, with an allowance of weighings (rule 12). Any table whatever is taken. Assumes nothing.
 ghost use mathlib.Core.Path.{_≡_};
 ghost use Rattle.bound.specs.Answer.{answer};
 use crate::Bounded;
@@ -14,7 +14,7 @@ use crate::sets;
 use crate::table;
 use model::TaskNo;
 
-// "Start: outermost sections, B the task itself, R empty" (`Answered.spent-is`, `Answered.answer-of`)
+// Rules 12.6 and 12.9 (`Answered.spent-is`, `Answered.answer-of`).
 pub fn bound(s: Sections, task: TaskNo, allowance: u32) -> Bounded
     ensures { λ r. ⌜ r ≡ answer s (task .0) allowance ⌝ }
 {

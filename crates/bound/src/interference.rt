@@ -1,4 +1,4 @@
-// The interference sum and the ordering value, which call one another until tasks and depth run out (01, "Interference bound"). An allowance is
+// The interference sum and the ordering value, which call one another until tasks and depth run out (rules 12.4 and 12.5). An allowance is
 // spent for each section weighed, and nothing more is weighed once it is exceeded. The table comes as rows of four numbers for each section, their
 // outer resources, and where a calculation's sections stand (`draw`), so that no weighing copies it. A contract says what a function leaves of the
 // allowance (`Spends`) for the calculation of `Interference` that it names, on every table that the arrays show; the law in brackets is what joins the
@@ -125,7 +125,7 @@ fn weigh(
     Tally::Of(rows[i][LENGTH] as u64 + value, 0, left)
 }
 
-// "The first greatest counts": of the task's sections on the resource, by number (`Skips.best-to`).
+// The first of the greatest of the task's sections on the resource, by number (`Skips.best-to`).
 fn first_greatest(
     rows: &[[usize; 4]; SECTIONS],
     spans: &[[usize; 2]; SPANS],
@@ -161,7 +161,7 @@ fn first_greatest(
     Tally::Of(value, giver, kept)
 }
 
-// "trying each remaining task next, then each remaining after it": this task next, which remains (`Steps.tried-is`).
+// The tree of orders (rule 12.8) under this task, which remains and comes next (`Steps.tried-is`).
 fn tried_next(
     rows: &[[usize; 4]; SECTIONS],
     spans: &[[usize; 2]; SPANS],
@@ -216,7 +216,7 @@ fn tried_next(
     Tally::Of(next + later, 0, left)
 }
 
-// The remaining tasks "in the order giving the largest sum" (`Steps.order-made`).
+// The largest sum over the orders of the remaining tasks (`Steps.order-made`).
 fn largest_order(
     rows: &[[usize; 4]; SECTIONS],
     spans: &[[usize; 2]; SPANS],
@@ -262,8 +262,7 @@ fn largest_order(
     Tally::Of(value, 0, kept)
 }
 
-// "Ordering value: the tasks outside B that have a section on c's resource, in the order giving the largest sum. Held starts as that R."
-// (`Steps.own-is`)
+// The ordering value of a section on the resource (rule 12.5); `entry` is what Held begins as (`Steps.own-is`).
 fn ordering_value(
     rows: &[[usize; 4]; SECTIONS],
     spans: &[[usize; 2]; SPANS],
@@ -297,8 +296,8 @@ fn ordering_value(
     )
 }
 
-// "the ordering value, plus the same calculation on c's direct children, both with R and c's resource": of section c, if it stands
-// there (`Steps.sum-is`).
+// What section c adds to a sum (rule 12.4), if it stands in the section of the ordinal: both parts are found with its own resource added to R
+// (`Steps.sum-is`).
 fn sum_over(
     rows: &[[usize; 4]; SECTIONS],
     spans: &[[usize; 2]; SPANS],
@@ -336,7 +335,7 @@ fn sum_over(
     Tally::Of(ordered + value, 0, left)
 }
 
-// "sum over the sections c" of the task that stand directly in the section of the ordinal (`Skips.sum-to`, `Steps.sum-made`).
+// Rule 12.4, of the task's sections that stand directly in the section of the ordinal (`Skips.sum-to`, `Steps.sum-made`).
 pub(crate) fn interference_sum(
     rows: &[[usize; 4]; SECTIONS],
     spans: &[[usize; 2]; SPANS],

@@ -1,5 +1,5 @@
-// The interference bound of 01 ("Interference bound"): its table of sections, its answer, and what the calculation hands on. What the bound is
-// stands in specs/; the functions stand in the modules. Assumes nothing.
+// The interference bound (rule 12): its table of sections, its answer, and what the calculation hands on. What the bound is stands in specs/; the
+// functions stand in the modules. Assumes nothing.
 pub mod answer;
 mod draw;
 mod interference;

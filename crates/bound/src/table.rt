@@ -1,4 +1,4 @@
-// The tests of a table, a task and an allowance, 40 to 45 in 01's order.
+// The tests of a table, a task and an allowance: 40 to 45 in the order of rule 12.9.
 // Entries past the count are not read. Assumes nothing.
 ghost use mathlib.Core.Path.{_≡_};
 ghost use mathlib.Core.Option.{none};
@@ -95,7 +95,7 @@ fn child_length(section: Section, i: usize) -> u64
     }
 }
 
-// "children's lengths sum to at most the parent's"
+// Rule 12.2: what stands directly in section i is together no longer than it is.
 fn children_fit(s: Sections, i: usize) -> bool
     requires { ⌜ (s .count ≤ sectionNumbers) × (i < sectionNumbers) ⌝ }
     ensures { λ r. ⌜ r ≡ childrenFit s i ⌝ }

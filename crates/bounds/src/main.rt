@@ -1,15 +1,22 @@
 // The planners' program: a table of sections on standard input, the allowance as an argument, and a line for each task. The format is in
-// docs/BOUNDS.md. What is read, and at which line a table is refused, stands in `bound_text`, what is calculated in `bound`; this only writes.
+// docs/BOUNDS.md. What is read, and at which line a table is refused, stands in `bound_text`, what is calculated in `bound`; this only writes. A table
+// that is refused is told on standard output, like a bound; where no table is looked at, the reason is told on standard error.
 use bound::Bounded;
 use bound::Sections;
 use bound::Verdict;
 use bound::table;
 use bound_text::Reading;
 use bound_text::fault;
+use libc::STDERR_FILENO;
+use libc::STDIN_FILENO;
 use libc::STDOUT_FILENO;
 use model::TaskNo;
 
-const ALLOWANCE: u32 = 1000000;
+// The allowance where none is given: the largest.
+const ALLOWANCE: u32 = bound::MILLION;
+
+// As many bytes as the buffer has: a text that fills it may be longer.
+const TEXT_BYTES: usize = 65536;
 
 fn put(text: &[u8]) {
     io::write_all(STDOUT_FILENO, text);
@@ -111,11 +118,20 @@ fn allowance() -> u32 {
     bound_text::read::number(&text[..n])
 }
 
+// Why no table is looked at, and what to do.
+fn complain(text: &[u8]) {
+    io::write_all(STDERR_FILENO, text);
+}
+
 fn main() {
+    if os::arg_count() > 2 {
+        complain(b"bounds: too many arguments: give one number, the allowance, or none\n");
+        return;
+    }
     let mut text = io::large_buffer();
-    let n = io::read_full(libc::STDIN_FILENO, &mut text);
-    if n == 65536 {
-        put(b"not read: the text has more than 65535 bytes\n");
+    let n = io::read_full(STDIN_FILENO, &mut text);
+    if n == TEXT_BYTES {
+        complain(b"bounds: the table has more than 65535 bytes: shorten it, its comments first\n");
         return;
     }
     put_reading(bound_text::read::read(&text[..n]), allowance());

@@ -6,7 +6,7 @@ use lib.ListN.{getD}
 abbrev pub byteAt : List ℕ → ℕ → ℕ
 byteAt bytes at = getD bytes at 0
 
--- "All numbers little-endian."
+-- little-endian: rule 13.1
 unfoldable pub twoBytes : List ℕ → ℕ → ℕ
 twoBytes bytes at = byteAt bytes at + 256 * byteAt bytes (at + 1)
 

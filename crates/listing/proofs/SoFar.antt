@@ -1,5 +1,7 @@
--- What the loop over the events keeps: the text so far is stored, and with what is still to come it is the whole. Assumes nothing.
+-- What the loop over the events keeps: the text so far is stored, with what is still to come it is the whole, and the state is sound, so that each step
+-- may be made without the test for that. Assumes nothing.
 use mathlib.Core.Path.{_≡_, refl, sym, ap, _∙_}
+use mathlib.Core.Bool.{true}
 use mathlib.Core.List.{List, [], _∷_, _++_, append-assoc}
 use Prim.Native.Nat.{ℕ, _+_, _*_, _≤_}
 use native.Mathlib.Omega.{arith}
@@ -8,7 +10,11 @@ use Rattle.model.specs.declared.Table.{Table}
 use Rattle.model.specs.declared.State.{State}
 use Rattle.model.specs.declared.Event.{Event}
 use Rattle.model.specs.declared.Outcome.{Outcome}
-use Rattle.model.specs.Step.{stepped}
+use Rattle.model.specs.Shape.{Shaped}
+use Rattle.model.specs.Sound.{sound}
+use Rattle.model.specs.Step.{attempted, stepped}
+use Rattle.theory.proofs.Outcomes.{stepped-sound}
+use Rattle.theory.proofs.Soundness.{kept}
 use Rattle.trace.specs.declared.Place.{Place}
 use Rattle.trace.specs.declared.Record.the-variants.{Counts, Reservation, Happening}
 use Rattle.trace.specs.declared.Read.{Read}
@@ -52,19 +58,36 @@ pub record So-far (file lent : List ℕ) (from : ℕ) (fresh : State) (out : Lis
   pub numbered : events ≤ at
   pub wrote : Wrote (13 * at) lent 0 text out written
   pub rest : text ++ textFrom file (running st events) at ≡ textFrom file (running fresh 0) from
+  pub shaped : Shaped st
+  pub is-sound : sound st ≡ true
+
+-- on a sound state a step is what is attempted
+pub attempted-stepped : (st : State) (e : Event) → sound st ≡ true → attempted st e ≡ stepped st e
+unfolding attempted
+attempted-stepped st e s = sym (stepped-sound st e s)
 
 module _ {file lent : List ℕ} {from : ℕ} {fresh : State} where
-  pub so-far-start : from ≤ length file → So-far file lent from fresh lent from fresh 0 0
-  so-far-start l =
-      record { text = []; inside = l; numbered = omega arith; wrote = wrote-most (omega arith) (wrote-none lent 0); rest = refl }
+  pub so-far-start : from ≤ length file → Shaped fresh × (sound fresh ≡ true) → So-far file lent from fresh lent from fresh 0 0
+  so-far-start l s =
+      record {
+        text = [];
+        inside = l;
+        numbered = omega arith;
+        wrote = wrote-most (omega arith) (wrote-none lent 0);
+        rest = refl;
+        shaped = s .0;
+        is-sound = s .1;
+      }
 
   module _ {out : List ℕ} {at : ℕ} {st : State} {events written : ℕ} (h : So-far file lent from fresh out at st events written) where
     pub so-far-turn
         : {to : List ℕ} {next : ℕ} (e : Event) (q : Place) (o : Outcome)
-        → readAt file at ≡ Got (Happening e) q → o ≡ stepped st e → Wrote 51 out written (eventLine (events + 1) (o .answer)) to next
+        → readAt file at ≡ Got (Happening e) q → o ≡ attempted st e → Wrote 51 out written (eventLine (events + 1) (o .answer)) to next
         → So-far file lent from fresh to (q .at) (o .state) (events + 1) next
-    so-far-turn e q o g s w =
+    so-far-turn e q o g a w =
         let m = read-moves file at (Happening e) q g in
+        let s : o ≡ stepped st e = a ∙ attempted-stepped st e (h .is-sound) in
+        let k = kept st e (h .shaped) (h .is-sound) in
         let line : List ℕ = eventLine (events + 1) (o .answer) in
         record {
           text = h .text ++ line;
@@ -77,6 +100,8 @@ module _ {file lent : List ℕ} {from : ℕ} {fresh : State} where
               (ap (λ p. eventLine (events + 1) (p .answer) ++ textFrom file (running (p .state) (events + 1)) (q .at)) s
               ∙ sym (text-event file at (running st events) q e g refl))
               ∙ h .rest;
+          shaped = rw s (k .0);
+          is-sound = rw s (k .1);
         }
 
     -- there is room for a line, and for the last lines

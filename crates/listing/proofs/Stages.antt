@@ -15,11 +15,14 @@ use borrow.Author.Tests.{eq-eqb, ne-eqb}
 use Rattle.laws.specs.Tests.{if_then_else_}
 use Rattle.model.specs.declared.Entry.{Entry}
 use Rattle.model.specs.declared.Table.{Table}
+use Rattle.model.specs.declared.State.{State}
 use Rattle.model.specs.declared.FreshAnswer.{FreshAnswer}
 use Rattle.model.specs.declared.FreshAnswer.the-variants.{Made, Refused}
 use Rattle.model.specs.State.{places}
-use Rattle.model.specs.Sound.{countsFit}
+use Rattle.model.specs.Shape.{Shaped}
+use Rattle.model.specs.Sound.{countsFit, sound}
 use Rattle.model.specs.Fresh.{noEntry, countsRefusal, entryRefusal, freshRefusal, freshState, freshOf}
+use Rattle.model.proofs.Fresh.{fresh-shaped, fresh-sound}
 use Rattle.trace.specs.declared.Place.{Place}
 use Rattle.trace.proofs.Read as reading
 use Rattle.trace.proofs.Record as recorded
@@ -132,6 +135,10 @@ module _ {file : List ℕ} {p t r from : ℕ} where
     -- where all are read
     pub begun-accepted : t ≤ k → freshRefusal (tableOf p t r entry) ≡ none
     begun-accepted l = whole-accepted (tableOf p t r entry) (rw (le-antisymm (h .entered .most) l) at (h .entered))
+
+    -- so that the replay begins with a sound state
+    pub begun-sound : t ≤ k → (st : State) → st ≡ freshState (tableOf p t r entry) → Shaped st × (sound st ≡ true)
+    begun-sound l st e = rw e (fresh-shaped (tableOf p t r entry), fresh-sound (tableOf p t r entry) (begun-accepted l))
 
     pub begun-done
         : t ≤ k → textFrom file (running (freshState (tableOf p t r entry)) 0) at ≡ textFrom file (started (entering (countedTable p t r) 0)) from

@@ -19,7 +19,7 @@ use Rattle.listing.specs.Listing.{Progress, itemsText}
 unfoldable pub textFrom : List ℕ → Progress → ℕ → List ℕ
 textFrom file p at = itemsText (itemsAt file at) p
 
--- what is told where a record of the table cannot be read: the fault, or "32 .. table unfinished" (law `table-unread`)
+-- what is told where a record of the table cannot be read: the fault, or 32 (rule 13.6, law `table-unread`)
 abbrev pub unreadNumber : Read → ℕ
 unreadNumber (Got r p) = 32
 unreadNumber End = 32

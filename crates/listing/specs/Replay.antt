@@ -31,7 +31,7 @@ replayed file lent = if leb (room (length file)) lent then Written (length (list
 unfoldable pub bufferAfter : List ℕ → List ℕ → List ℕ
 bufferAfter file lent = if leb (room (length file)) (length lent) then stored lent 0 (listing file) else lent
 
--- document 01 has no number for a buffer that is too short: it is told as `refused` and 0
+-- the rules have no number for a buffer that is too short: it is told as `refused` and 0
 abbrev pub saidReplayed : Replayed → Word × ℕ
 saidReplayed (Written n) = (ok, n)
 saidReplayed TooShort = (refused, 0)

@@ -1,7 +1,7 @@
--- Words, fields and lines as bytes; the words of `bytes` for text are passed on, since every line is made of them. Assumes nothing.
+-- Words, fields and lines as bytes (rule 14.5). Assumes nothing.
 use mathlib.Core.List.{List, _++_}
 use Prim.Native.Nat.{ℕ}
-unfoldable pub use Rattle.bytes.specs.Text.{bytes, digits, decimal}
+use Rattle.bytes.specs.Text.{bytes, decimal}
 use Rattle.model.specs.declared.Phase.{Phase}
 use Rattle.model.specs.declared.Phase.the-variants.{Idle, Active, Running, Recharging}
 use Rattle.model.specs.Said.{Word, ok, executes, spins, granted, waits, passed, freed, refused}

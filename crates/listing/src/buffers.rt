@@ -4,7 +4,7 @@ ghost use mathlib.Core.Path.{_≡_};
 ghost use lib.ListN.{length, replicate};
 ghost use Rattle.listing.specs.Replay.{fileBytes, textBytes};
 
-// "33 file above 60,000 bytes"
+// Rule 13.7.
 pub const FILE_LIMIT: usize = 60000;
 
 // The room that a listing needs: so much for each byte of the file, and so much more.

@@ -1,5 +1,5 @@
-// What stands after the events where a trace is good to its end: `end` and the clock, then a line for each server and for each task. Each function
-// is given a buffer that has room for the longest text that it can write.
+// What stands after the events where a trace is good to its end (rule 14.2): `end` and the clock, then a line for each server and for each task. Each
+// function is given a buffer that has room for the longest text that it can write.
 ghost use mathlib.Core.List.{_++_};
 ghost use Prim.Native.Nat.{_+_, _≤_};
 ghost use lib.ListN.{length};
@@ -29,7 +29,7 @@ fn put_phase(out: &mut [u8], at: usize, phase: Phase) -> usize
     }
 }
 
-// "`server`, number, state"
+// The first half of a server's line, up to its phase.
 fn put_state(out: &mut [u8], at: usize, s: usize, phase: Phase) -> usize
     requires { ⌜ at + 38 ≤ length (now out) ⌝ }
     ensures { λ r. ⌜ Wrote 38 (now (out .entry)) at (bytes "server" ++ field s ++ bytes " " ++ phaseWord phase) (now (out .exit)) r ⌝ }
@@ -39,7 +39,7 @@ fn put_state(out: &mut [u8], at: usize, s: usize, phase: Phase) -> usize
     put_phase(out, next, phase)
 }
 
-// "`server`, number, state, budget, deadline, own, lent, spin"
+// A server's whole line.
 fn put_server(out: &mut [u8], at: usize, s: usize, server: Server) -> usize
     requires { ⌜ at + 144 ≤ length (now out) ⌝ }
     ensures { λ r. ⌜ Wrote 144 (now (out .entry)) at (serverText s server) (now (out .exit)) r ⌝ }
@@ -52,7 +52,7 @@ fn put_server(out: &mut [u8], at: usize, s: usize, server: Server) -> usize
     put_text(out, next, b"\n")
 }
 
-// "per server `server`, number, state, budget, deadline, own, lent, spin"
+// The lines of the servers in use.
 fn put_servers(out: &mut [u8], at: usize, st: State) -> usize
     requires { ⌜ at + 2304 ≤ length (now out) ⌝ }
     ensures { λ r. ⌜ Wrote 2304 (now (out .entry)) at (joinTo 16 (serverLine st)) (now (out .exit)) r ⌝ }
@@ -68,7 +68,7 @@ fn put_servers(out: &mut [u8], at: usize, st: State) -> usize
     next
 }
 
-// "per task `task`, number, executed"
+// A task's line.
 fn put_task(out: &mut [u8], at: usize, t: usize, executed: u32) -> usize
     requires { ⌜ at + 47 ≤ length (now out) ⌝ }
     ensures { λ r. ⌜ Wrote 47 (now (out .entry)) at (taskText t executed) (now (out .exit)) r ⌝ }
@@ -91,7 +91,7 @@ fn put_tasks(out: &mut [u8], at: usize, st: State) -> usize
     next
 }
 
-// "Then `end` and clock"
+// The whole close of a listing.
 pub fn put_end(out: &mut [u8], at: usize, st: State) -> usize
     requires { ⌜ at + 3081 ≤ length (now out) ⌝ }
     ensures { λ r. ⌜ Wrote 3081 (now (out .entry)) at (endLines st) (now (out .exit)) r ⌝ }

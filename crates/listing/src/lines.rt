@@ -12,7 +12,7 @@ use bytes::text::put_number;
 use bytes::text::put_text;
 use model::Answer;
 
-// "`stop`, its offset, refusal number"
+// Rule 14.3.
 pub fn put_stop(out: &mut [u8], at: usize, offset: usize, number: u16) -> usize
     requires { ⌜ at + 47 ≤ length (now out) ⌝ }
     ensures { λ r. ⌜ Wrote 47 (now (out .entry)) at (stopLine offset number) (now (out .exit)) r ⌝ }
@@ -37,7 +37,7 @@ fn put_answer(out: &mut [u8], at: usize, answer: Answer) -> usize
     }
 }
 
-// "Per event: number from 1, answer word (`refused` for a refusal), number."
+// Rule 14.1.
 pub fn put_event(out: &mut [u8], at: usize, number: usize, answer: Answer) -> usize
     requires { ⌜ at + 51 ≤ length (now out) ⌝ }
     ensures { λ r. ⌜ Wrote 51 (now (out .entry)) at (eventLine number answer) (now (out .exit)) r ⌝ }

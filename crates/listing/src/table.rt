@@ -21,7 +21,7 @@ use trace::Place;
 use trace::Read;
 use trace::Record;
 
-// What is told where a table's record cannot be read: the reader's fault, or "32 .. table unfinished" at the file's end.
+// What is told where a table's record cannot be read: the reader's fault, or 32 at the file's end (rule 13.6).
 fn unread_number(read: Read) -> u16
     ensures { λ r. ⌜ r ≡ unreadNumber read ⌝ }
 {
@@ -75,7 +75,7 @@ fn counts_answer(processors: u16, tasks: u16, resources: u16) -> FreshAnswer
     })
 }
 
-// "then a 17 per task": each entry is tested by fresh on the table so far, of which it is the last (law `entry-tested`).
+// The lines of the tasks (rule 13.4): each is tested by fresh on the table so far, of which it is the last (law `entry-tested`).
 fn put_from_entries(
     file: &[u8],
     out: &mut [u8],
@@ -125,7 +125,7 @@ fn put_from_entries(
     crate::events::put_from_events(file, out, place, state)
 }
 
-// "One 16, then ..": the whole listing of a file that is not too long (law `listing-read`).
+// From the counts on (rule 13.4): the whole listing of a file that is not too long (law `listing-read`).
 pub fn put_listing(file: &[u8], out: &mut [u8]) -> usize
     requires { ⌜ room (length (now file)) ≤ length (now out) ⌝ }
     ensures { λ r. ⌜ Wrote (room (length (now (file .entry)))) (now (out .entry)) 0 (textFrom (now (file .entry)) beginning 0) (now (out .exit)) r ⌝ }

@@ -27,7 +27,7 @@ pub fn replay(file: &[u8], out: &mut [u8]) -> Replayed
     if !has_room(file.len(), out.len()) {
         return Replayed::TooShort;
     }
-    // "33 file above 60,000 bytes (place 0, nothing else)"
+    // rules 13.7 and 14.4
     if file.len() > FILE_LIMIT {
         return Replayed::Written(crate::lines::put_stop(out, 0, 0, 33));
     }

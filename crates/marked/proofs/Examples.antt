@@ -1,4 +1,4 @@
--- Every example holds, computed by the checker from the definitions: `marked` is the theorem of document 01's table. Assumes nothing.
+-- Every example holds, computed by the checker from the definitions: `marked` is the theorem of the table of marked examples. Assumes nothing.
 use mathlib.Core.Path.{_≡_, refl}
 use mathlib.Core.Bool.{true, _||_}
 use mathlib.Core.List.{List, _++_}
@@ -23,8 +23,10 @@ use Rattle.bound.specs.Sets as sets
 use Rattle.bound.specs.Table as sections
 use Rattle.bound.specs.Interference as interference
 use Rattle.bound.specs.Answer as bounded
-use Rattle.trace.specs.Reading.{twoBytes, fourBytes, bodyLength, entryIn, recordIn, readFault, readAt, itemsFrom, itemsAt, items}
-use Rattle.listing.specs.Text.{bytes, digits, decimal, field, newline, spelled, phaseWord}
+use Rattle.bytes.specs.Numbers.{twoBytes, fourBytes, two, four}
+use Rattle.bytes.specs.Text.{bytes, digits, decimal}
+use Rattle.trace.specs.Reading.{bodyLength, entryIn, recordIn, readFault, readAt, itemsFrom, itemsAt, items}
+use Rattle.listing.specs.Text.{field, newline, spelled, phaseWord}
 use Rattle.listing.specs.Listing.{eventLine, stopLine, serverLine, taskLine, endLines, itemsText, listing}
 use Rattle.marked.specs.Clauses as clauses
 use Rattle.marked.specs.Example.{Example, AllHold, _and_, nothing}
@@ -65,7 +67,7 @@ unfolding firstOf countTo allTo sumTo setTo foldTo betterOf bestTo joinTo after 
     sets.meets sections.around sections.outer sections.sectionFits sections.childLength sections.childrenFit sections.sectionRefusal sections.tableRefusal
     sections.refusal interference.gathered interference.weighingIf interference.weighedOn interference.best interference.triedNext interference.order
     interference.blocker interference.blockers interference.ordering interference.sumOver interference.sums interference.level interference.bound
-    bounded.answer twoBytes fourBytes bodyLength entryIn recordIn readFault readAt itemsFrom itemsAt items bytes digits decimal field newline spelled phaseWord
+    bounded.answer twoBytes fourBytes two four bodyLength entryIn recordIn readFault readAt itemsFrom itemsAt items bytes digits decimal field newline spelled phaseWord
     eventLine stopLine serverLine taskLine endLines itemsText listing rowOf meteredRow meteredRows meterRefusal metered notInBoth shares notFrom foundNext
     spread inGroup anyKey groupOf clauses.quotaFrom1 clauses.quotaToPeriod clauses.periodToLimit clauses.depthFits clauses.entriesPresent
     clauses.waitingFits clauses.waitersHere clauses.stacksAgree clauses.queuesAgree clauses.ownerDeclares clauses.waiterDeclares clauses.allHeldDeclared

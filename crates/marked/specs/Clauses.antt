@@ -1,5 +1,5 @@
--- The clauses of soundness, each apart and as fine as document 01 says them: an example can then say which one a state breaks, and that it keeps all
--- others. They are `model.Sound` taken to pieces; `proofs/Clauses` has that a state is sound exactly when it breaks none. Assumes nothing.
+-- The clauses of soundness (rule 4), each apart and as fine as they can be told: an example can then say which one a state breaks, and that it keeps
+-- all others. They are `model.Sound` taken to pieces; `proofs/Clauses` has that a state is sound exactly when it breaks none. Assumes nothing.
 use mathlib.Core.Bool.{Bool, true, false}
 use mathlib.Core.List.{List, [], _∷_}
 use Prim.Native.Nat.{ℕ, _+_}

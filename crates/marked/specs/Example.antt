@@ -28,7 +28,7 @@ use Rattle.bound.specs.declared.Bounded.{Bounded}
 use Rattle.bound.specs.Answer as bound
 use Rattle.trace.specs.declared.Read.{Read}
 use Rattle.trace.specs.Reading.{readAt}
-use Rattle.listing.specs.Text.{bytes}
+use Rattle.bytes.specs.Text.{bytes}
 use Rattle.listing.specs.Listing.{listing}
 use Rattle.marked.specs.Clauses.{Clause, broken}
 

@@ -1,4 +1,4 @@
--- The examples that document 01 marks p, in its order: one table. Assumes nothing.
+-- The examples that have to be proved by one theorem, in the order in which they were asked for: one table. Assumes nothing.
 use mathlib.Core.List.{List, [], _∷_, _++_}
 use Prim.Native.Nat.{ℕ, _-_}
 use lib.ListN.{length, replicate}
@@ -19,7 +19,7 @@ use Rattle.bound.specs.Table.{noSection}
 use Rattle.marked.specs.Trace.{line, tableOf, wake, suspend, dispatch, preempt, recharge, lock, unlock, traceOf}
 use Rattle.marked.specs.Example.{Example, prints, leads, answers, refuses, bounds, lastState}
 
--- Case R: "2 processors, 3 tasks, 1 resource; Q/P 10/20, 8/20, 6/30; all declare 0."
+-- Case R: two processors, and three tasks that share one resource (docs/TRACE.md tells it line by line)
 abbrev pub tableR : Table
 tableR = tableOf 2 1 (line 10 20 1 ∷ line 8 20 1 ∷ line 6 30 1 ∷ [])
 
@@ -39,14 +39,14 @@ spinners b c = tableOf 3 1 (line 10 20 1 ∷ line b 20 1 ∷ line c 20 1 ∷ [])
 abbrev pub spinning : List Event
 spinning = wake 0 ∷ dispatch 0 ∷ lock 0 0 ∷ wake 1 ∷ dispatch 1 ∷ lock 1 0 ∷ wake 2 ∷ dispatch 2 ∷ lock 2 0 ∷ []
 
--- "tasks 0 and 1 hold resources 0 and 1; 0 waits for 1; task 1, executing, locks 0"
+-- each of two tasks holds a resource, task 0 waits for task 1's, and task 1 asks for task 0's: the chain would close
 abbrev pub tableClosing : Table
 tableClosing = tableOf 2 2 (line 10 20 3 ∷ line 10 20 3 ∷ [])
 
 abbrev pub closing : List Event
 closing = wake 0 ∷ dispatch 0 ∷ lock 0 0 ∷ wake 1 ∷ dispatch 1 ∷ lock 1 1 ∷ lock 0 1 ∷ lock 1 0 ∷ []
 
--- "two servers serving one task reach 0 together"
+-- two servers that serve one task run out in the same elapse
 abbrev pub tableTogether : Table
 tableTogether = tableOf 2 1 (line 5 20 1 ∷ line 5 20 1 ∷ [])
 
@@ -60,7 +60,7 @@ section t r n p = record { task = record { 0 = t }; resource = r; length = n; pa
 abbrev pub sectionsOf : ℕ → List Section → Sections
 sectionsOf t xs = record { tasks = t; count = length xs; section = xs ++ replicate (12 - length xs) noSection }
 
--- "task 0 on 1, length 5; task 1 on 0, 9, inside it on 1, 4; task 2 on 0, 8, inside it on 1, 3"
+-- the table of docs/BOUNDS.md: task 0 with one section, tasks 1 and 2 with one inside another
 abbrev pub threeTasks : Sections
 threeTasks =
     sectionsOf 3

@@ -1,4 +1,4 @@
--- Runs from a fresh table: document 01's slips, and what tells wrong variants of the events and of rule H apart. Assumes nothing.
+-- Runs from a fresh table: what is easily got wrong, and what tells wrong variants of the events and of rule H apart. Assumes nothing.
 use mathlib.Core.List.{List, [], _∷_, _++_}
 use lib.ListN.{take}
 use Rattle.model.specs.declared.Phase.the-variants.{Idle, Active, Running, Recharging}
@@ -11,7 +11,7 @@ use Rattle.marked.specs.Trace.{line, tableOf, wake, suspend, dispatch, p
 use Rattle.marked.specs.Example.{Example, prints, leads}
 use Rattle.marked.specs.Marked.{on, spinners, spinning}
 
--- "A passes resource 1 to B, who holds 2, for which C waits; C's server must now serve B." A, B, C are tasks 0, 1, 2; B's own server is preempted.
+-- task 0 passes resource 1 to task 1, which holds 2, for which task 2 waits: server 2 serves task 1 from then on (rule 7.10); server 1 is preempted
 abbrev pub tablePassing : Table
 tablePassing = tableOf 3 3 (line 10 20 2 ∷ line 10 20 6 ∷ line 10 20 4 ∷ [])
 
@@ -23,7 +23,7 @@ passing =
 abbrev pub tableTwo : Table
 tableTwo = tableOf 2 1 (line 2 20 1 ∷ line 9 20 1 ∷ [])
 
--- "Sending a releasing task home to a server that is Recharging."
+-- its own server is Recharging when it gives the resource away, so that it executes nowhere
 abbrev pub homeless : List Event
 homeless = wake 0 ∷ dispatch 0 ∷ lock 0 0 ∷ wake 1 ∷ dispatch 1 ∷ lock 1 0 ∷ Elapse 2 ∷ unlock 0 0 ∷ []
 

@@ -1,7 +1,8 @@
 -- A table and events, and the bytes of their trace: how the examples are written down. Assumes nothing.
 use mathlib.Core.List.{List, [], _∷_, _++_}
-use Prim.Native.Nat.{ℕ, zero, suc, _+_, _-_, _/_, _%_}
+use Prim.Native.Nat.{ℕ, zero, suc, _+_, _-_}
 use lib.ListN.{length, replicate}
+use Rattle.bytes.specs.Numbers.{two, four}
 use Rattle.model.specs.declared.Entry.{Entry}
 use Rattle.model.specs.declared.Table.{Table}
 use Rattle.model.specs.declared.Event.{Event}
@@ -58,12 +59,6 @@ waits t = Waits (record { 0 = t })
 
 abbrev pub passed : ℕ → Answer
 passed t = Passed (record { 0 = t })
-
-abbrev pub two : ℕ → List ℕ
-two n = n % 256 ∷ n / 256 % 256 ∷ []
-
-abbrev pub four : ℕ → List ℕ
-four n = two (n % 65536) ++ two (n / 65536)
 
 -- a record of a kind with its body
 abbrev pub recordOf : ℕ → List ℕ → List ℕ

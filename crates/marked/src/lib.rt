@@ -1,1 +1,1 @@
-// No code: the marked examples of document 01, computed by the checker from the definitions.
+// No code: the marked examples, computed by the checker from the definitions.

@@ -14,7 +14,8 @@ use Rattle.trace.specs.declared.Place.{Place}
 use Rattle.trace.specs.declared.Record.{Record}
 use Rattle.trace.specs.declared.Read.{Read}
 use Rattle.trace.specs.declared.Read.the-variants.{Got, End, Fault}
-use Rattle.trace.specs.Reading.{twoBytes, readFault, readBy, readAt, itemsAfter, itemsFrom, itemsAt}
+use Rattle.bytes.specs.Numbers.{twoBytes}
+use Rattle.trace.specs.Reading.{readFault, readBy, readAt, itemsAfter, itemsFrom, itemsAt}
 
 -- what is not cut is longer than its kind and shorter than the file
 whole : (file : List ℕ) (at : ℕ) → readFault file at ≡ none → (2 ≤ twoBytes file at) × (twoBytes file at ≤ length file - at - 2) × (2 ≤ length file - at)

@@ -8,7 +8,8 @@ use borrow.Author.Tests.{lt-leb, le-leb, lt-ltb, le-ltb, eq-eqb, ne-eqb}
 use Rattle.laws.specs.Tests.{firstOf}
 use Rattle.trace.specs.declared.Record.{Record}
 use Rattle.trace.specs.declared.Read.the-variants.{Got, End, Fault}
-use Rattle.trace.specs.Reading.{twoBytes, bodyLength, recordIn, readFault, readAt}
+use Rattle.bytes.specs.Numbers.{twoBytes}
+use Rattle.trace.specs.Reading.{bodyLength, recordIn, readFault, readAt}
 
 module _ (file : List ℕ) (at : ℕ) where
   pub read-end : length file ≤ at → End ≡ readAt file at

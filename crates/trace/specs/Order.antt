@@ -1,5 +1,4 @@
--- The order of a trace: document 01, "One 16, then a 17 per task, then events", and the refusals that a record meets where it stands.
--- Assumes nothing.
+-- The order of a trace (rule 13.4), and the refusals that a record meets where it stands. Assumes nothing.
 use mathlib.Core.Option.{Option, none, some}
 use Prim.Native.Nat.{ℕ, _+_}
 use lib.Dec.{eqb}
@@ -24,7 +23,7 @@ countedTable p t r = record { processors = p; tasks = t; resources = r; entry = 
 abbrev pub withEntry : Table → ℕ → Entry → Table
 withEntry tb k e = record { processors = tb .processors; tasks = tb .tasks; resources = tb .resources; entry = set (tb .entry) k e }
 
--- "32 out of order or table unfinished"; 19 to 21 as the table is read
+-- 32 for what is out of order (rule 13.6); 19 to 21 as the table is read (rule 5.4)
 abbrev pub orderRefusal : Stage → Record → Option ℕ
 orderRefusal opening (Counts p t r) = countsRefusal (countedTable p t r)
 orderRefusal opening (Reservation e) = some 32
@@ -49,6 +48,6 @@ advanced (complete tb) (Counts p t r) = complete tb
 advanced (complete tb) (Reservation e) = complete tb
 advanced (complete tb) (Happening e) = complete tb
 
--- "33 file above 60,000 bytes"
+-- the longest file: rule 13.7
 abbrev pub fileLimit : ℕ
 fileLimit = 60000

@@ -1,5 +1,4 @@
--- What reading a record at a place of a trace gives: document 01, "Trace and replay", its first two paragraphs. The numbers of
--- `bytes` are passed on, since every record is made of them. Assumes nothing.
+-- What reading a record at a place of a trace gives: rules 13.1 to 13.5 and 13.8. Assumes nothing.
 use mathlib.Core.Bool.{Bool, not, _&&_, _||_}
 use mathlib.Core.List.{List, [], _∷_}
 use mathlib.Core.Option.{Option, none, some}
@@ -7,7 +6,7 @@ use Prim.Native.Nat.{ℕ, zero, suc, _+_, _-_}
 use lib.Dec.{ltb, leb, eqb}
 use lib.ListN.{length}
 use Rattle.laws.specs.Tests.{if_then_else_, _when_or_, accepted, firstOf}
-unfoldable pub use Rattle.bytes.specs.Numbers.{twoBytes, fourBytes}
+use Rattle.bytes.specs.Numbers.{twoBytes, fourBytes}
 use Rattle.model.specs.declared.Entry.{Entry}
 use Rattle.model.specs.declared.Event.{Event}
 use Rattle.model.specs.declared.Event.the-variants.{Wake, Suspend, Dispatch, Preempt, Elapse, Recharge, Lock, Unlock}
@@ -16,7 +15,7 @@ use Rattle.trace.specs.declared.Record.the-variants.{Counts, Reservation
 use Rattle.trace.specs.declared.Read.{Read}
 use Rattle.trace.specs.declared.Read.the-variants.{Got, End, Fault}
 
--- the bytes of a kind's body, 0 for an unknown kind: "Operands are two bytes each, elapse's four."
+-- the bytes of a kind's body, 0 for an unknown kind: rules 13.2 and 13.3
 unfoldable pub bodyLength : ℕ → ℕ
 bodyLength kind =
     if (leb 1 kind && leb kind 4) || eqb kind 6
@@ -29,11 +28,11 @@ bodyLength kind =
     then 10
     else 0
 
--- "Kind 17: Q, P (four each), declared set (two, bit r for resource r)."
+-- a task's line: rule 13.3
 unfoldable pub entryIn : List ℕ → ℕ → Entry
 entryIn file at = record { quota = fourBytes file at; period = fourBytes file (at + 4); declared = twoBytes file (at + 8) }
 
--- "Kinds 1 to 8: wake, suspend, dispatch, preempt, elapse, recharge, lock, unlock."
+-- the kinds of events: rule 13.2
 abbrev pub isEvent : ℕ → Bool
 isEvent kind = leb 1 kind && leb kind 8
 
@@ -56,7 +55,7 @@ eventOf kind number resource ticks =
     then Lock (record { 0 = number }) resource
     else Unlock (record { 0 = number }) resource
 
--- the record of a known kind, with its body at an offset: "Operands are two bytes each, elapse's four."
+-- the record of a known kind, with its body at an offset: rules 13.2 and 13.3
 unfoldable pub recordIn : ℕ → List ℕ → ℕ → Record
 recordIn kind file at =
     if isEvent kind
@@ -65,8 +64,7 @@ recordIn kind file at =
     then Counts (twoBytes file at) (twoBytes file (at + 2)) (twoBytes file (at + 4))
     else Reservation (entryIn file at)
 
--- "30 record cut short; 31 length below 2, unknown kind, or wrong length for it", "Length below 2 is told before a cut body, a cut body before
--- the kind."
+-- the faults of a record in their order: rule 13.5
 unfoldable pub readFault : List ℕ → ℕ → Option ℕ
 readFault file at =
     firstOf (
@@ -78,7 +76,7 @@ readFault file at =
     accepted
     )
 
--- "Record: two-byte length of what follows, two-byte kind, body.", "Reading a record gives back the record and the moved place."
+-- a record (rule 13.1) and the place after it, or the fault: rule 13.8
 abbrev pub readBy : Option ℕ → List ℕ → ℕ → Read
 readBy none file at = Got (recordIn (twoBytes file (at + 2)) file (at + 4)) (record { at = at + 2 + twoBytes file at })
 readBy (some n) file at = Fault n

@@ -2,7 +2,7 @@
 use model::Entry;
 use model::Event;
 
-// A place in a trace, by value, as document 01 has it: the offset of a record. Reading answers the record with the next place.
+// A place in a trace, by value: the offset of a record. Reading answers the record with the next place (rule 13.8).
 pub struct Place {
     pub at: usize,
 }

@@ -11,7 +11,8 @@ use Rattle.laws.proofs.Cases.{split}
 use Rattle.model.specs.Said.{Word}
 use Rattle.trace.specs.Order.{fileLimit}
 use Rattle.listing.specs.Replay.{room}
-use Rattle.listing.specs.Text.{bytes, digits, decimal, field, newline}
+use Rattle.bytes.specs.Text.{bytes, digits, decimal}
+use Rattle.listing.specs.Text.{field, newline}
 use Rattle.listing.specs.Listing.{stopLine, listing}
 use Rattle.listing.proofs.Lengths.{listing-fits}
 use Rattle.vesztamor.specs.Packed.{wordNumber, packed}

@@ -24,21 +24,21 @@ abbrev μ-loop : tie.MeasureT-loop
 -- room for the last lines, for a stop and for an event's line
 end-room : tie.Need-put-end-requires Inv-loop μ-loop
 unfolding room
-end-room c κs = let head = c .before .before .before .before in so-far-room (head .loop .inv) 3081 (omega arith) (head .before .before .before .pre .1)
+end-room c κs = let head = c .before .before .before .before in so-far-room (head .loop .inv) 3081 (omega arith) (head .before .before .before .pre .0 .1)
 
 fault-room : tie.Need-put-stop-requires Inv-loop μ-loop
 unfolding room
-fault-room c κs = let head = c .before .before .before .before .before .before in so-far-room (head .loop .inv) 47 (omega arith) (head .before .before .before .pre .1)
+fault-room c κs = let head = c .before .before .before .before .before .before in so-far-room (head .loop .inv) 47 (omega arith) (head .before .before .before .pre .0 .1)
 
 wrong-room : tie.Need-put-stop-requires-2 Inv-loop μ-loop
 unfolding room
-wrong-room c κs = let head = c .before .before .before .before .before .before in so-far-room (head .loop .inv) 47 (omega arith) (head .before .before .before .pre .1)
+wrong-room c κs = let head = c .before .before .before .before .before .before in so-far-room (head .loop .inv) 47 (omega arith) (head .before .before .before .pre .0 .1)
 
 event-room : tie.Need-put-event-requires Inv-loop μ-loop
 unfolding room
 event-room c κs =
     let head = c .before .before .before .before .before .before .before .before .before in
-    so-far-room (head .loop .inv) 51 (omega arith) (head .before .before .before .pre .1)
+    so-far-room (head .loop .inv) 51 (omega arith) (head .before .before .before .pre .0 .1)
 
 -- the file's end, a record that cannot be read, and one that is no event
 ended : tie.Need-returns Inv-loop μ-loop
@@ -89,7 +89,7 @@ kept c =
     let read = told .before .before in
     so-far-turn (read .before .loop .inv) _ _ _
     (sym (read .read .ensures) ∙ told .read2 .given .1 ∙ ap (λ r. Got r (told .read2 .given .0 .1 .0)) (happening .«record» .given .1))
-    (stepped .step .ensures .0) (call .put-event .ensures)
+    (stepped .attempted .ensures) (call .put-event .ensures)
 
 pub put-from-events-spec : {M : Type 1} → statement M
 put-from-events-spec =
@@ -97,7 +97,7 @@ put-from-events-spec =
     (tie.spec
     Inv-loop
     μ-loop
-    (λ c. so-far-start (c .before .before .pre .0))
+    (λ c. so-far-start (c .before .before .pre .0 .0) (c .before .before .pre .1))
     (λ c κs. search needs) (λ c. search needs) (λ c. search needs)
     end-room
     (λ c. search needs)

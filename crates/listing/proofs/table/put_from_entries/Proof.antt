@@ -8,7 +8,7 @@ use Rattle.trace.specs.declared.Read.the-variants.{Got}
 use Rattle.listing.specs.Replay.{room}
 use Rattle.listing.specs.Computed.{textFrom, running}
 use Rattle.bytes.proofs.Writing.{wrote-as}
-use Rattle.listing.proofs.Stages.{Begun, begun-none, begun-most, begun-unread, begun-wrong, begun-refused, begun-made, begun-more, begun-accepted, begun-done}
+use Rattle.listing.proofs.Stages.{Begun, begun-none, begun-most, begun-unread, begun-wrong, begun-refused, begun-made, begun-more, begun-accepted, begun-sound, begun-done}
 use Rattle.listing.proofs.table.put_from_entries.Statement.{statement}
 use Rattle.listing.proofs.table.put_from_entries.Tie as tie
 
@@ -81,8 +81,11 @@ put-from-entries-spec =
     ))
     (λ c κs. begun-accepted (c .before .loop .inv .0) (c .loop-test .left))
     (λ c κs.
-    let head = c .before .before .before in
-    (head .loop .inv .0 .inside, omega (arith, head .loop .inv .2, head .before .before .before .pre .1 .1)))
+    let made = c .before in
+    let head = made .before .before in (
+      (head .loop .inv .0 .inside, omega (arith, head .loop .inv .2, head .before .before .before .pre .1 .1)),
+      begun-sound (head .loop .inv .0) (made .before .loop-test .left) _ (made .fresh-state .ensures),
+    ))
     (λ c. search needs)
     (λ c.
     let call = c .before .before in
