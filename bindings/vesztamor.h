@@ -24,6 +24,9 @@ extern "C" {
 #define VESZTAMOR_TABLE_BYTES(tasks) (6 + 10 * (size_t)(tasks))
 #define VESZTAMOR_SECTIONS_BYTES(sections) (4 + 9 * (size_t)(sections))
 #define VESZTAMOR_BOUND_BYTES 12
+/* the bytes of a meter row, and of so many */
+#define VESZTAMOR_ROW_BYTES 17
+#define VESZTAMOR_ROWS_BYTES(rows) (VESZTAMOR_ROW_BYTES * (size_t)(rows))
 /* the bytes that a replay's text may need, for a trace of so many bytes */
 #define VESZTAMOR_TEXT_BYTES(trace) (13 * (size_t)(trace) + 4000)
 
@@ -48,6 +51,14 @@ enum vesztamor_kind {
     VESZTAMOR_RECHARGE = 6,
     VESZTAMOR_LOCK = 7,
     VESZTAMOR_UNLOCK = 8
+};
+
+/* a server's phase, in a state and in a meter row */
+enum vesztamor_phase {
+    VESZTAMOR_IDLE = 0,
+    VESZTAMOR_ACTIVE = 1,
+    VESZTAMOR_RUNNING = 2,
+    VESZTAMOR_RECHARGING = 3
 };
 
 /* Why a call is refused: the numbers of docs/REFUSALS.md, which says what to do; and 0, where memory lent for a result has the wrong length. */
@@ -91,6 +102,27 @@ enum vesztamor_refusal {
 static inline uint32_t vesztamor_word_of(uint64_t answer) { return (uint32_t)(answer >> 32); }
 static inline uint32_t vesztamor_number_of(uint64_t answer) { return (uint32_t)answer; }
 
+/* One server's meter row, out of its bytes. */
+struct vesztamor_row {
+    uint8_t phase;
+    uint32_t budget, own, lent, spin;
+};
+
+static inline uint32_t vesztamor_four_bytes(const uint8_t *bytes) {
+    return (uint32_t)bytes[0] | (uint32_t)bytes[1] << 8 | (uint32_t)bytes[2] << 16 | (uint32_t)bytes[3] << 24;
+}
+
+static inline struct vesztamor_row vesztamor_row_of(const uint8_t *rows, size_t server) {
+    const uint8_t *bytes = rows + VESZTAMOR_ROWS_BYTES(server);
+    struct vesztamor_row row;
+    row.phase = bytes[0];
+    row.budget = vesztamor_four_bytes(bytes + 1);
+    row.own = vesztamor_four_bytes(bytes + 5);
+    row.lent = vesztamor_four_bytes(bytes + 9);
+    row.spin = vesztamor_four_bytes(bytes + 13);
+    return row;
+}
+
 /* The fresh state of a table: ok 0. Refused 0: state has not VESZTAMOR_STATE_BYTES bytes; 19: counts, or the table's length; 20, 21. */
 uint64_t vesztamor_fresh(const uint8_t *table, size_t table_length, uint8_t *state, size_t state_length);
 
@@ -103,6 +135,10 @@ uint64_t vesztamor_step(uint8_t *state, size_t state_length, uint16_t kind, uint
 
 /* What a server is doing: executes or spins, and the task; ok 0 where it is not Running or there is no such server. Refused 1: no state. */
 uint64_t vesztamor_executing(const uint8_t *state, size_t state_length, uint16_t server);
+
+/* Meter rows: row s receives server s's phase, budget, own, lent and spin, for each server in use; rows past these stay. ok and the number of rows
+ * written. Refused 0: rows_length is no multiple of VESZTAMOR_ROW_BYTES; 1: no state, or none that is sound; 22: fewer rows than tasks. */
+uint64_t vesztamor_meter(const uint8_t *state, size_t state_length, uint8_t *rows, size_t rows_length);
 
 /* The interference bound of a task: ok 12, with the bound (8 bytes) and the weighings (4 bytes) in out. Refused 0: out has not
  * VESZTAMOR_BOUND_BYTES bytes; 40: counts, or the table's length; 41 to 46. */

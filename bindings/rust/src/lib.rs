@@ -8,15 +8,49 @@
 pub const STATE_BYTES: usize = 1802;
 /// The bytes of a bound: the bound in eight, the weighings in four.
 pub const BOUND_BYTES: usize = 12;
+/// The bytes of a meter row: the phase in one, then budget, own, lent and spin in four each.
+pub const ROW_BYTES: usize = 17;
+/// As many rows as a machine can have servers.
+const MOST_ROWS: usize = 16;
 
 mod library {
     extern "C" {
-        pub fn vesztamor_fresh(table: *const u8, table_length: usize, state: *mut u8, state_length: usize) -> u64;
+        pub fn vesztamor_fresh(
+            table: *const u8,
+            table_length: usize,
+            state: *mut u8,
+            state_length: usize,
+        ) -> u64;
         pub fn vesztamor_is_sound(state: *const u8, state_length: usize) -> u64;
-        pub fn vesztamor_step(state: *mut u8, state_length: usize, kind: u16, number: u16, resource: u16, ticks: u32) -> u64;
+        pub fn vesztamor_step(
+            state: *mut u8,
+            state_length: usize,
+            kind: u16,
+            number: u16,
+            resource: u16,
+            ticks: u32,
+        ) -> u64;
         pub fn vesztamor_executing(state: *const u8, state_length: usize, server: u16) -> u64;
-        pub fn vesztamor_bound(sections: *const u8, sections_length: usize, task: u16, allowance: u32, out: *mut u8, out_length: usize) -> u64;
-        pub fn vesztamor_replay(trace: *const u8, trace_length: usize, out: *mut u8, out_length: usize) -> u64;
+        pub fn vesztamor_meter(
+            state: *const u8,
+            state_length: usize,
+            rows: *mut u8,
+            rows_length: usize,
+        ) -> u64;
+        pub fn vesztamor_bound(
+            sections: *const u8,
+            sections_length: usize,
+            task: u16,
+            allowance: u32,
+            out: *mut u8,
+            out_length: usize,
+        ) -> u64;
+        pub fn vesztamor_replay(
+            trace: *const u8,
+            trace_length: usize,
+            out: *mut u8,
+            out_length: usize,
+        ) -> u64;
     }
 }
 
@@ -51,6 +85,45 @@ impl Answer {
 }
 
 #[derive(Clone, Copy, Debug, PartialEq, Eq, Hash)]
+pub enum Phase {
+    Idle,
+    Active,
+    Running,
+    Recharging,
+}
+
+/// One server's meter row.
+#[derive(Clone, Copy, Debug, PartialEq, Eq, Hash)]
+pub struct Row {
+    pub phase: Phase,
+    pub budget: u32,
+    pub own: u32,
+    pub lent: u32,
+    pub spin: u32,
+}
+
+impl Row {
+    /// The row that the library wrote into these bytes.
+    pub fn of(bytes: &[u8; ROW_BYTES]) -> Row {
+        let four = |at: usize| {
+            u32::from_le_bytes([bytes[at], bytes[at + 1], bytes[at + 2], bytes[at + 3]])
+        };
+        Row {
+            phase: match bytes[0] {
+                0 => Phase::Idle,
+                1 => Phase::Active,
+                2 => Phase::Running,
+                _ => Phase::Recharging,
+            },
+            budget: four(1),
+            own: four(5),
+            lent: four(9),
+            spin: four(13),
+        }
+    }
+}
+
+#[derive(Clone, Copy, Debug, PartialEq, Eq, Hash)]
 pub enum Event {
     Wake { task: u16 },
     Suspend { task: u16 },
@@ -71,7 +144,9 @@ pub struct State {
 impl State {
     /// The fresh state of a table in bytes, or the refusal's number.
     pub fn fresh(table: &[u8]) -> Result<State, u32> {
-        let mut state = State { bytes: [0; STATE_BYTES] };
+        let mut state = State {
+            bytes: [0; STATE_BYTES],
+        };
         match fresh_into(table, &mut state.bytes) {
             Answer::Refused(number) => Err(number),
             _ => Ok(state),
@@ -101,11 +176,23 @@ impl State {
     pub fn executing(&self, server: u16) -> Answer {
         executing(&self.bytes, server)
     }
+
+    /// The meter rows of the servers in use, or the refusal's number.
+    pub fn meter(&self) -> Result<Vec<Row>, u32> {
+        let mut rows = [[0u8; ROW_BYTES]; MOST_ROWS];
+        match meter_into(&self.bytes, rows.as_flattened_mut()) {
+            Answer::Ok(count) => Ok(rows.iter().take(count as usize).map(Row::of).collect()),
+            Answer::Refused(number) => Err(number),
+            other => unreachable!("meter answers ok or refused, not {other:?}"),
+        }
+    }
 }
 
 /// The fresh state of a table, into the bytes lent for it.
 pub fn fresh_into(table: &[u8], state: &mut [u8]) -> Answer {
-    Answer::of(unsafe { library::vesztamor_fresh(table.as_ptr(), table.len(), state.as_mut_ptr(), state.len()) })
+    Answer::of(unsafe {
+        library::vesztamor_fresh(table.as_ptr(), table.len(), state.as_mut_ptr(), state.len())
+    })
 }
 
 /// Whether the bytes hold a sound state: `Ok(0)` or `Refused(1)`.
@@ -115,7 +202,16 @@ pub fn is_sound(state: &[u8]) -> Answer {
 
 /// One event on the state in the bytes, by the kind's number of a trace.
 pub fn step(state: &mut [u8], kind: u16, number: u16, resource: u16, ticks: u32) -> Answer {
-    Answer::of(unsafe { library::vesztamor_step(state.as_mut_ptr(), state.len(), kind, number, resource, ticks) })
+    Answer::of(unsafe {
+        library::vesztamor_step(
+            state.as_mut_ptr(),
+            state.len(),
+            kind,
+            number,
+            resource,
+            ticks,
+        )
+    })
 }
 
 /// What a server is doing in the state in the bytes.
@@ -123,10 +219,26 @@ pub fn executing(state: &[u8], server: u16) -> Answer {
     Answer::of(unsafe { library::vesztamor_executing(state.as_ptr(), state.len(), server) })
 }
 
+/// The meter rows of the state in the bytes, one after the other into the rows lent for them: how many were written. Rows past these stay.
+pub fn meter_into(state: &[u8], rows: &mut [u8]) -> Answer {
+    Answer::of(unsafe {
+        library::vesztamor_meter(state.as_ptr(), state.len(), rows.as_mut_ptr(), rows.len())
+    })
+}
+
 /// The bound of a task and the weighings spent on it, or the refusal's number.
 pub fn bound(sections: &[u8], task: u16, allowance: u32) -> Result<(u64, u32), u32> {
     let mut out = [0u8; BOUND_BYTES];
-    let answer = unsafe { library::vesztamor_bound(sections.as_ptr(), sections.len(), task, allowance, out.as_mut_ptr(), out.len()) };
+    let answer = unsafe {
+        library::vesztamor_bound(
+            sections.as_ptr(),
+            sections.len(),
+            task,
+            allowance,
+            out.as_mut_ptr(),
+            out.len(),
+        )
+    };
     match Answer::of(answer) {
         Answer::Refused(number) => Err(number),
         _ => {
@@ -146,7 +258,9 @@ pub fn text_bytes(trace: usize) -> usize {
 
 /// The listing of a trace into a buffer: how long its text is, or `None`, and nothing written, where the buffer is shorter than [`text_bytes`].
 pub fn replay_into(trace: &[u8], out: &mut [u8]) -> Option<usize> {
-    let answer = unsafe { library::vesztamor_replay(trace.as_ptr(), trace.len(), out.as_mut_ptr(), out.len()) };
+    let answer = unsafe {
+        library::vesztamor_replay(trace.as_ptr(), trace.len(), out.as_mut_ptr(), out.len())
+    };
     match Answer::of(answer) {
         Answer::Ok(length) => Some(length as usize),
         _ => None,

@@ -16,14 +16,19 @@ fn text(path: &str) -> String {
 /// The value of a sum of products of numbers and of names that were defined before.
 fn value(expression: &str, known: &Numbers) -> u64 {
     let factor = |word: &str| word.trim().parse().unwrap_or_else(|_| known[word.trim()]);
-    expression.split('+').map(|product| product.split('*').map(factor).product::<u64>()).sum()
+    expression
+        .split('+')
+        .map(|product| product.split('*').map(factor).product::<u64>())
+        .sum()
 }
 
 /// The constants of a source file, in its order: `const NAME: TYPE = EXPRESSION;`.
 fn constants(path: &str) -> Numbers {
     let mut known = Numbers::new();
     for line in text(path).lines() {
-        let Some((_, rest)) = line.split_once("const ") else { continue };
+        let Some((_, rest)) = line.split_once("const ") else {
+            continue;
+        };
         let (name, rest) = rest.split_once(':').expect("a constant has a type");
         let (_, expression) = rest.split_once('=').expect("a constant has a value");
         let number = value(expression.trim_end().trim_end_matches(';'), &known);
@@ -35,12 +40,17 @@ fn constants(path: &str) -> Numbers {
 /// The members of one of the header's enums, without the library's prefix.
 fn members(name: &str) -> Numbers {
     let header = text("bindings/vesztamor.h");
-    let (_, rest) = header.split_once(&format!("enum {name} {{")).expect("the header has the enum");
+    let (_, rest) = header
+        .split_once(&format!("enum {name} {{"))
+        .expect("the header has the enum");
     let (body, _) = rest.split_once("};").expect("an enum ends");
     body.split(',')
         .map(|member| {
             let (name, number) = member.split_once('=').expect("a member has its number");
-            let name = name.trim().strip_prefix("VESZTAMOR_").expect("a member has the library's prefix");
+            let name = name
+                .trim()
+                .strip_prefix("VESZTAMOR_")
+                .expect("a member has the library's prefix");
             (name.to_string(), number.trim().parse().expect("a number"))
         })
         .collect()
@@ -49,7 +59,10 @@ fn members(name: &str) -> Numbers {
 /// The number that the header defines under a name.
 fn defined(name: &str) -> u64 {
     let header = text("bindings/vesztamor.h");
-    let line = header.lines().find(|line| line.starts_with(&format!("#define {name} "))).expect("the header defines it");
+    let line = header
+        .lines()
+        .find(|line| line.starts_with(&format!("#define {name} ")))
+        .expect("the header defines it");
     line.rsplit(' ').next().unwrap().parse().expect("a number")
 }
 
@@ -60,7 +73,10 @@ fn refusals() -> Numbers {
         let cells: Vec<&str> = line.split('|').map(str::trim).collect();
         if let [_, number, name, ..] = cells[..] {
             if let Ok(number) = number.parse() {
-                assert!(rows.insert(name.to_uppercase(), number).is_none(), "{name} stands twice in docs/REFUSALS.md");
+                assert!(
+                    rows.insert(name.to_uppercase(), number).is_none(),
+                    "{name} stands twice in docs/REFUSALS.md"
+                );
             }
         }
     }
@@ -69,17 +85,38 @@ fn refusals() -> Numbers {
 
 #[test]
 fn sizes_are_those_of_the_source() {
-    assert_eq!(constants("crates/image/src/sizes.rt")["IMAGE_SIZE"], vesztamor::STATE_BYTES as u64);
-    assert_eq!(defined("VESZTAMOR_STATE_BYTES"), vesztamor::STATE_BYTES as u64);
-    assert_eq!(defined("VESZTAMOR_BOUND_BYTES"), vesztamor::BOUND_BYTES as u64);
-    assert!(text("crates/vesztamor/specs/Exported.antt").contains(&format!("boundSize = {}\n", vesztamor::BOUND_BYTES)));
+    assert_eq!(
+        constants("crates/image/src/sizes.rt")["IMAGE_SIZE"],
+        vesztamor::STATE_BYTES as u64
+    );
+    assert_eq!(
+        defined("VESZTAMOR_STATE_BYTES"),
+        vesztamor::STATE_BYTES as u64
+    );
+    assert_eq!(
+        defined("VESZTAMOR_BOUND_BYTES"),
+        vesztamor::BOUND_BYTES as u64
+    );
+    assert!(text("crates/vesztamor/specs/Exported.antt")
+        .contains(&format!("boundSize = {}\n", vesztamor::BOUND_BYTES)));
+    assert_eq!(
+        constants("crates/vesztamor/src/metering.rt")["METER_ROW_SIZE"],
+        vesztamor::ROW_BYTES as u64
+    );
+    assert_eq!(defined("VESZTAMOR_ROW_BYTES"), vesztamor::ROW_BYTES as u64);
 }
 
 #[test]
 fn room_for_a_text_is_that_of_the_source() {
-    let (each, more) = (vesztamor::text_bytes(1) - vesztamor::text_bytes(0), vesztamor::text_bytes(0));
-    assert!(text("crates/listing/specs/Replay.antt").contains(&format!("room n = {each} * n + {more}\n")));
-    assert!(text("bindings/vesztamor.h").contains(&format!("VESZTAMOR_TEXT_BYTES(trace) ({each} * (size_t)(trace) + {more})\n")));
+    let (each, more) = (
+        vesztamor::text_bytes(1) - vesztamor::text_bytes(0),
+        vesztamor::text_bytes(0),
+    );
+    assert!(text("crates/listing/specs/Replay.antt")
+        .contains(&format!("room n = {each} * n + {more}\n")));
+    assert!(text("bindings/vesztamor.h").contains(&format!(
+        "VESZTAMOR_TEXT_BYTES(trace) ({each} * (size_t)(trace) + {more})\n"
+    )));
 }
 
 #[test]
@@ -90,8 +127,34 @@ fn words_are_those_of_the_source() {
     assert_eq!(words["OK"], 0);
     for (word, packed) in source {
         assert_eq!(words[&word] << 32, packed, "{word}");
-        assert_eq!(format!("{:?}", vesztamor::Answer::of(packed + 5)).to_uppercase(), format!("{word}(5)"));
+        assert_eq!(
+            format!("{:?}", vesztamor::Answer::of(packed + 5)).to_uppercase(),
+            format!("{word}(5)")
+        );
     }
+}
+
+#[test]
+fn phases_are_those_of_the_source() {
+    let phases = members("vesztamor_phase");
+    let mut seen = 0;
+    for line in text("crates/vesztamor/src/metering.rt").lines() {
+        let Some((phase, number)) = line
+            .trim()
+            .trim_end_matches(',')
+            .strip_prefix("Phase::")
+            .and_then(|arm| arm.split_once(" => "))
+        else {
+            continue;
+        };
+        let number: u64 = number.parse().expect("a phase has its number");
+        seen += 1;
+        assert_eq!(phases[&phase.to_uppercase()], number, "{phase}");
+        let mut row = [0; vesztamor::ROW_BYTES];
+        row[0] = number as u8;
+        assert_eq!(format!("{:?}", vesztamor::Row::of(&row).phase), phase);
+    }
+    assert_eq!(seen, phases.len());
 }
 
 #[test]
@@ -99,7 +162,9 @@ fn kinds_are_those_of_the_source() {
     let kinds = members("vesztamor_kind");
     let mut seen = 0;
     for line in text("crates/trace/src/kinds.rt").lines() {
-        let Some((key, event)) = line.trim().split_once(" => Event::") else { continue };
+        let Some((key, event)) = line.trim().split_once(" => Event::") else {
+            continue;
+        };
         let name = event.split('(').next().unwrap().to_uppercase();
         seen += 1;
         // the last arm takes what is left of the known kinds, 1 to 8
@@ -132,14 +197,23 @@ fn refusals_of_the_source_stand_in_the_table() {
     let table: Vec<u64> = refusals().into_values().collect();
     let mut found = 0;
     for folder in fs::read_dir(tree().join("crates")).unwrap() {
-        let Ok(files) = fs::read_dir(folder.unwrap().path().join("src")) else { continue };
+        let Ok(files) = fs::read_dir(folder.unwrap().path().join("src")) else {
+            continue;
+        };
         for file in files {
             let path = file.unwrap().path();
             for number in told(&fs::read_to_string(&path).unwrap()) {
                 found += 1;
-                assert!(number == 0 || table.contains(&number), "{}: {number} is not in docs/REFUSALS.md", path.display());
+                assert!(
+                    number == 0 || table.contains(&number),
+                    "{}: {number} is not in docs/REFUSALS.md",
+                    path.display()
+                );
             }
         }
     }
-    assert!(found > 40, "the source tells only {found} numbers: this test no longer reads it rightly");
+    assert!(
+        found > 40,
+        "the source tells only {found} numbers: this test no longer reads it rightly"
+    );
 }

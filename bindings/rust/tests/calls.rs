@@ -2,7 +2,10 @@
 //! say it, and the cross-check compares); this shows that the calls arrive and come back whole.
 use std::fs;
 use std::path::Path;
-use vesztamor::{bound, executing, fresh_into, is_sound, replay, replay_into, step, text_bytes, Answer, Event, State, STATE_BYTES};
+use vesztamor::{
+    bound, executing, fresh_into, is_sound, meter_into, replay, replay_into, step, text_bytes,
+    Answer, Event, Phase, Row, State, ROW_BYTES, STATE_BYTES,
+};
 
 /// Two processors, two tasks with Q = 10 and P = 100, one resource that both declare.
 fn table() -> Vec<u8> {
@@ -19,7 +22,12 @@ fn sections(tasks: u8, list: &[(u8, u8, u8, u8)]) -> Vec<u8> {
 }
 
 fn example(name: &str) -> Vec<u8> {
-    fs::read(Path::new(env!("CARGO_MANIFEST_DIR")).join("../../examples").join(name)).unwrap()
+    fs::read(
+        Path::new(env!("CARGO_MANIFEST_DIR"))
+            .join("../../examples")
+            .join(name),
+    )
+    .unwrap()
 }
 
 #[test]
@@ -30,12 +38,36 @@ fn a_lock_is_waited_for_and_handed_over() {
         (Event::Wake { task: 0 }, Answer::Ok(1)),
         (Event::Wake { task: 1 }, Answer::Ok(1)),
         (Event::Dispatch { server: 0 }, Answer::Executes(0)),
-        (Event::Lock { task: 0, resource: 0 }, Answer::Granted(0)),
+        (
+            Event::Lock {
+                task: 0,
+                resource: 0,
+            },
+            Answer::Granted(0),
+        ),
         (Event::Dispatch { server: 1 }, Answer::Executes(1)),
-        (Event::Lock { task: 1, resource: 0 }, Answer::Waits(0)),
+        (
+            Event::Lock {
+                task: 1,
+                resource: 0,
+            },
+            Answer::Waits(0),
+        ),
         (Event::Elapse { ticks: 3 }, Answer::Ok(0)),
-        (Event::Unlock { task: 0, resource: 0 }, Answer::Passed(1)),
-        (Event::Unlock { task: 1, resource: 0 }, Answer::Freed(0)),
+        (
+            Event::Unlock {
+                task: 0,
+                resource: 0,
+            },
+            Answer::Passed(1),
+        ),
+        (
+            Event::Unlock {
+                task: 1,
+                resource: 0,
+            },
+            Answer::Freed(0),
+        ),
         (Event::Preempt { server: 1 }, Answer::Ok(0)),
         (Event::Recharge { server: 1 }, Answer::Refused(13)),
         (Event::Suspend { task: 0 }, Answer::Ok(1)),
@@ -65,16 +97,105 @@ fn a_fresh_state_lies_as_its_page_says() {
 #[test]
 fn a_server_executes_or_spins() {
     let mut state = State::fresh(&table()).unwrap();
-    for event in [Event::Wake { task: 0 }, Event::Dispatch { server: 0 }, Event::Lock { task: 0, resource: 0 }] {
+    for event in [
+        Event::Wake { task: 0 },
+        Event::Dispatch { server: 0 },
+        Event::Lock {
+            task: 0,
+            resource: 0,
+        },
+    ] {
         state.step(event);
     }
-    for event in [Event::Wake { task: 1 }, Event::Dispatch { server: 1 }, Event::Lock { task: 1, resource: 0 }] {
+    for event in [
+        Event::Wake { task: 1 },
+        Event::Dispatch { server: 1 },
+        Event::Lock {
+            task: 1,
+            resource: 0,
+        },
+    ] {
         state.step(event);
     }
     assert_eq!(state.executing(0), Answer::Executes(0));
     assert_eq!(state.executing(1), Answer::Spins(0));
     assert_eq!(state.executing(16), Answer::Ok(0));
     assert_eq!(state.executing(65535), Answer::Ok(0));
+}
+
+/// Two servers run for task 0, which holds the resource; five ticks have passed.
+fn contended() -> State {
+    let mut state = State::fresh(&table()).unwrap();
+    for number in 0..2 {
+        for event in [
+            Event::Wake { task: number },
+            Event::Dispatch { server: number },
+            Event::Lock {
+                task: number,
+                resource: 0,
+            },
+        ] {
+            state.step(event);
+        }
+    }
+    state.step(Event::Elapse { ticks: 5 });
+    state
+}
+
+#[test]
+fn a_row_is_its_servers() {
+    let rows = contended().meter().unwrap();
+    let row = |own, spin| Row {
+        phase: Phase::Running,
+        budget: 5,
+        own,
+        lent: 0,
+        spin,
+    };
+    assert_eq!(rows, [row(5, 0), row(0, 5)]);
+}
+
+#[test]
+fn rows_lie_as_their_page_says_and_others_stay() {
+    // docs/STATE.md
+    let mut bytes = [7; 3 * ROW_BYTES + 17];
+    assert_eq!(meter_into(&contended().bytes, &mut bytes), Answer::Ok(2));
+    assert_eq!(
+        bytes[..17],
+        [2, 5, 0, 0, 0, 5, 0, 0, 0, 0, 0, 0, 0, 0, 0, 0, 0]
+    );
+    assert_eq!(
+        bytes[17..34],
+        [2, 5, 0, 0, 0, 0, 0, 0, 0, 0, 0, 0, 0, 5, 0, 0, 0]
+    );
+    assert!(bytes[34..].iter().all(|&b| b == 7));
+}
+
+#[test]
+fn refused_rows_are_left_alone() {
+    let state = contended();
+    let mut unsound = state.clone();
+    unsound.bytes[0] = 0;
+    let (whole, short) = (2 * ROW_BYTES, ROW_BYTES);
+    for (given, room, number) in [
+        (&state.bytes[..], whole - 1, 0),
+        (&state.bytes[..], whole + 1, 0),
+        (&state.bytes[1..], whole - 1, 0),
+        (&state.bytes[1..], whole, 1),
+        (&unsound.bytes[..], whole, 1),
+        (&unsound.bytes[..], short, 1),
+        (&state.bytes[..], short, 22),
+        (&state.bytes[..], 0, 22),
+    ] {
+        let mut rows = vec![7; room];
+        assert_eq!(
+            meter_into(given, &mut rows),
+            Answer::Refused(number),
+            "{room} bytes"
+        );
+        assert!(rows.iter().all(|&b| b == 7));
+    }
+    assert_eq!(unsound.meter(), Err(1));
 }
 
 #[test]
@@ -96,7 +217,12 @@ fn a_refusal_writes_nothing() {
     }
     let mut bytes = [7; STATE_BYTES];
     assert_eq!(step(&mut bytes, 0, 0, 0, 0), Answer::Refused(1));
-    for table in [&table()[..25], &[table(), vec![0]].concat(), &[][..], &[9, 0, 0, 0, 0, 0]] {
+    for table in [
+        &table()[..25],
+        &[table(), vec![0]].concat(),
+        &[][..],
+        &[9, 0, 0, 0, 0, 0],
+    ] {
         assert_eq!(fresh_into(table, &mut bytes), Answer::Refused(19));
     }
     assert!(bytes.iter().all(|&b| b == 7));
@@ -105,15 +231,35 @@ fn a_refusal_writes_nothing() {
 #[test]
 fn a_bound_comes_with_its_weighings() {
     // docs/PROVED.md, "Not claimed"
-    let nine = [(0, 2, 1, 255), (1, 0, 20, 255), (1, 2, 4, 1), (1, 1, 20, 255), (1, 2, 4, 3), (2, 0, 20, 255), (2, 1, 10, 5), (2, 2, 7, 6), (2, 2, 6, 5)];
+    let nine = [
+        (0, 2, 1, 255),
+        (1, 0, 20, 255),
+        (1, 2, 4, 1),
+        (1, 1, 20, 255),
+        (1, 2, 4, 3),
+        (2, 0, 20, 255),
+        (2, 1, 10, 5),
+        (2, 2, 7, 6),
+        (2, 2, 6, 5),
+    ];
     let table = sections(3, &nine);
     assert_eq!(bound(&table, 0, 1000), Ok((7, 8)));
     assert_eq!(bound(&table, 0, 8), Ok((7, 8)));
     assert_eq!(bound(&table, 0, 7), Err(46));
     assert_eq!(bound(&table, 0, 0), Err(45));
     assert_eq!(bound(&table, 3, 1000), Err(44));
-    assert_eq!(bound(&sections(2, &[(0, 0, 5, 255), (0, 1, 4, 0), (0, 2, 4, 0)]), 0, 1000), Err(43));
-    assert_eq!(bound(&sections(2, &[(0, 1, 5, 255), (0, 0, 4, 0)]), 0, 1000), Err(42));
+    assert_eq!(
+        bound(
+            &sections(2, &[(0, 0, 5, 255), (0, 1, 4, 0), (0, 2, 4, 0)]),
+            0,
+            1000
+        ),
+        Err(43)
+    );
+    assert_eq!(
+        bound(&sections(2, &[(0, 1, 5, 255), (0, 0, 4, 0)]), 0, 1000),
+        Err(42)
+    );
     assert_eq!(bound(&sections(2, &[(0, 0, 5, 254)]), 0, 1000), Err(41));
     assert_eq!(bound(&sections(7, &[]), 0, 1000), Err(40));
     assert_eq!(bound(&table[..table.len() - 1], 0, 1000), Err(40));

@@ -90,6 +90,18 @@ module _ (st : State) (lent : ℕ) where
   unfolding meterRefusal
   accepted-enough e = ltb-false lent (st .tasks) (none-fails 22 (ltb lent (st .tasks)) _ (none-later 1 (not (sound st)) _ e))
 
+  -- what is accepted writes as many rows as there are tasks; no answer writes more than are lent
+  pub accepted-counted : meterRefusal st lent ≡ none → countTo places (here st) ≡ st .tasks
+  accepted-counted e = tasks-counted st (accepted-fit e)
+
+  written-by : (r : Option ℕ) → r ≡ meterRefusal st lent → written (decidedBy r st) ≤ lent
+  written-by none e = rw (accepted-counted (sym e)) (accepted-enough (sym e))
+  written-by (some n) e = omega arith
+
+  pub written-fits : written (decidedOn st lent) ≤ lent
+  unfolding decidedOn
+  written-fits = written-by (meterRefusal st lent) refl
+
 module _ (st : State) (rows : List Row) where
   answer-by : (r : Option ℕ) → decidedBy r st ≡ meterBy r st rows .0
   answer-by none = refl
@@ -100,10 +112,6 @@ module _ (st : State) (rows : List Row) where
   rows-by none fit = rw (tasks-counted st (fit refl)) (rows-chosen st (fit refl) rows)
   rows-by (some n) fit = refl
 
-  written-by : (r : Option ℕ) → (r ≡ none → st .tasks ≤ places) → (r ≡ none → st .tasks ≤ length rows) → written (decidedBy r st) ≤ length rows
-  written-by none fit enough = rw (tasks-counted st (fit refl)) (enough refl)
-  written-by (some n) fit enough = omega arith
-
   -- what is decided is what metering answers, says and writes
   pub answer-is : decidedOn st (length rows) ≡ metered st rows .0
   unfolding decidedOn metered
@@ -112,10 +120,6 @@ module _ (st : State) (rows : List Row) where
   pub rows-are : setTo (written (decidedOn st (length rows))) (rowOf st) rows ≡ metered st rows .1
   unfolding decidedOn metered
   rows-are = rows-by (meterRefusal st (length rows)) (accepted-fit st (length rows))
-
-  pub written-fits : written (decidedOn st (length rows)) ≤ length rows
-  unfolding decidedOn
-  written-fits = written-by (meterRefusal st (length rows)) (accepted-fit st (length rows)) (accepted-enough st (length rows))
 
 pub said-is : (st : State) (lent : ℕ) → said (decidedOn st lent) ≡ meterSaid st lent
 unfolding decidedOn meterSaid

@@ -43,6 +43,7 @@ each-unique = record {
   export-step = λ f g p q κ a. (p κ a .0 ∙ sym (q κ a .0), p κ a .1 ∙ sym (q κ a .1));
   export-bound = λ f g p q κ a. (p κ a .0 ∙ sym (q κ a .0), p κ a .1 ∙ sym (q κ a .1));
   export-replay = λ f g p q κ a. (p κ a .0 ∙ sym (q κ a .0), p κ a .1 ∙ sym (q κ a .1));
+  export-meter = λ f g p q κ a. (p κ a .0 ∙ sym (q κ a .0), p κ a .1 ∙ sym (q κ a .1));
   unusable-state = λ f g p q κ a. (p κ a ∙ sym (q κ a), refl);
   with-phase = λ f g p q κ a. (p κ a ∙ sym (q κ a), refl);
   with-mode = λ f g p q κ a. (p κ a ∙ sym (q κ a), refl);

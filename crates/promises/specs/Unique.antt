@@ -44,6 +44,7 @@ use Rattle.vesztamor.proofs.states.vesztamor_executing.Reads as ExportExecuting
 use Rattle.vesztamor.proofs.stepping.vesztamor_step.Reads as ExportStep
 use Rattle.vesztamor.proofs.bounds.vesztamor_bound.Reads as ExportBound
 use Rattle.vesztamor.proofs.replaying.vesztamor_replay.Reads as ExportReplay
+use Rattle.vesztamor.proofs.metering.vesztamor_meter.Reads as ExportMeter
 use Rattle.model.proofs.blank.unusable_state.Reads as UnusableState
 use Rattle.model.proofs.builders.with_phase.Reads as WithPhase
 use Rattle.model.proofs.builders.with_mode.Reads as WithMode
@@ -128,6 +129,7 @@ pub record EachUnique : Type 0 where
   pub export-step : UniqueLent ExportStep.Post (λ κ x. now (x .0))
   pub export-bound : UniqueLent ExportBound.Post (λ κ x. now (x .1 .1 .1 .0))
   pub export-replay : UniqueLent ExportReplay.Post (λ κ x. now (x .1 .0))
+  pub export-meter : UniqueLent ExportMeter.Post (λ κ x. now (x .1 .0))
   -- The model's own entries, tests and numbers, and the state of no use.
   pub unusable-state : Unique UnusableState.Post
   pub with-phase : Unique WithPhase.Post

@@ -1,3 +1,4 @@
 pub mod Packed
 pub mod Tables
 pub mod Exported
+pub mod Metering

@@ -35,6 +35,11 @@ pub enum Case {
         state: Vec<u8>,
         server: u16,
     },
+    /// A state, and so many bytes for its meter rows.
+    Meter {
+        state: Vec<u8>,
+        room: usize,
+    },
     Bound {
         sections: Vec<u8>,
         task: u16,
@@ -80,7 +85,7 @@ impl Case {
     fn seen_by(&self, side: &dyn Layer) -> Seen {
         let mut left = match self {
             Case::Replay { trace, missing } => vec![UNTOUCHED; text_bytes(trace.len()) - missing],
-            Case::Fresh { room, .. } => vec![UNTOUCHED; *room],
+            Case::Fresh { room, .. } | Case::Meter { room, .. } => vec![UNTOUCHED; *room],
             Case::Step { state, .. } => state.clone(),
             Case::Sound { .. } | Case::Executing { .. } | Case::Bound { .. } => Vec::new(),
         };
@@ -95,6 +100,7 @@ impl Case {
             Case::Sound { state } => Told::Answer(side.is_sound(state)),
             Case::Step { call, .. } => Told::Answer(side.step(left, *call)),
             Case::Executing { state, server } => Told::Answer(side.executing(state, *server)),
+            Case::Meter { state, .. } => Told::Answer(side.meter(state, left)),
             Case::Bound {
                 sections,
                 task,

@@ -58,7 +58,9 @@ fn reductions(case: &Case) -> Vec<Reduction> {
     match case {
         Case::Replay { trace, .. } => piece_reductions(pieces(trace).len()),
         Case::Fresh { .. } => vec![Reduction::DropLastRow; TASK_LIMIT],
-        Case::Sound { .. } | Case::Step { .. } | Case::Executing { .. } => state_reductions(),
+        Case::Sound { .. } | Case::Step { .. } | Case::Executing { .. } | Case::Meter { .. } => {
+            state_reductions()
+        }
         Case::Bound { sections, .. } => {
             let numbers = || (0..sections.len() / 9).rev();
             let drops = numbers().map(Reduction::DropSection);
@@ -119,9 +121,10 @@ impl Reduction {
                 table[2..4].copy_from_slice(&fewer.to_le_bytes());
                 table.truncate(table.len().saturating_sub(10));
             }
-            Case::Sound { state } | Case::Step { state, .. } | Case::Executing { state, .. } => {
-                *state = self.of_state(state)?;
-            }
+            Case::Sound { state }
+            | Case::Step { state, .. }
+            | Case::Executing { state, .. }
+            | Case::Meter { state, .. } => *state = self.of_state(state)?,
             Case::Bound { sections, .. } => self.of_sections(sections)?,
         }
         Some(smaller)

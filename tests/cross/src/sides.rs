@@ -43,6 +43,7 @@ pub trait Layer {
     fn is_sound(&self, state: &[u8]) -> Answer;
     fn step(&self, state: &mut [u8], call: Call) -> Answer;
     fn executing(&self, state: &[u8], server: u16) -> Answer;
+    fn meter(&self, state: &[u8], rows: &mut [u8]) -> Answer;
     /// The bound and the weighings, or the refusal's number.
     fn bound(&self, sections: &[u8], task: u16, allowance: u32) -> Result<(u64, u32), u32>;
     /// The length of the listing, or none where the buffer is too short for it.
@@ -67,6 +68,10 @@ impl Layer for Proved {
 
     fn executing(&self, state: &[u8], server: u16) -> Answer {
         vesztamor::executing(state, server)
+    }
+
+    fn meter(&self, state: &[u8], rows: &mut [u8]) -> Answer {
+        vesztamor::meter_into(state, rows)
     }
 
     fn bound(&self, sections: &[u8], task: u16, allowance: u32) -> Result<(u64, u32), u32> {
@@ -102,6 +107,10 @@ impl Layer for Second {
 
     fn executing(&self, state: &[u8], server: u16) -> Answer {
         Answer::of(library::executing(state, server))
+    }
+
+    fn meter(&self, state: &[u8], rows: &mut [u8]) -> Answer {
+        Answer::of(library::meter(state, rows))
     }
 
     fn bound(&self, sections: &[u8], task: u16, allowance: u32) -> Result<(u64, u32), u32> {

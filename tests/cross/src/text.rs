@@ -8,6 +8,7 @@ use crate::layout::fields;
 use crate::sides::Call;
 use second::generate::runs::framed;
 use second::image::{decode, STATE_BYTES};
+use second::library::METER_ROW_BYTES;
 use second::state::{Resource, Server, Task};
 use second::states::{counts_text, resource_text, server_text, task_text};
 use std::fmt::Write;
@@ -29,6 +30,9 @@ pub fn case_text(case: &Case) -> String {
         Case::Executing { state, server } => {
             format!("{}what does server {server} do?\n", state_text(state))
         }
+        Case::Meter { state, room } => {
+            format!("{}meter rows into {room} bytes\n", state_text(state))
+        }
         Case::Bound {
             sections,
             task,
@@ -48,6 +52,7 @@ pub fn difference_text(case: &Case, seen: &[Seen; 2]) -> String {
     match case {
         Case::Replay { .. } => text.push_str(&first_line_apart(seen)),
         Case::Fresh { .. } | Case::Step { .. } => text.push_str(&fields_apart(seen)),
+        Case::Meter { .. } => text.push_str(&rows_apart(seen)),
         Case::Sound { .. } | Case::Executing { .. } | Case::Bound { .. } => (),
     }
     text
@@ -114,6 +119,20 @@ fn fields_apart(seen: &[Seen; 2]) -> String {
         let (one, other) = (field.value(proved), field.value(second));
         if one != other {
             let _ = writeln!(text, "{}: proved {one}, second {other}", field.name);
+        }
+    }
+    text
+}
+
+/// The meter rows that differ, byte by byte.
+fn rows_apart(seen: &[Seen; 2]) -> String {
+    let [proved, second] = seen
+        .each_ref()
+        .map(|seen| seen.left.chunks(METER_ROW_BYTES));
+    let mut text = String::new();
+    for (number, (one, other)) in proved.zip(second).enumerate() {
+        if one != other {
+            let _ = writeln!(text, "row {number}: proved {one:02x?}, second {other:02x?}");
         }
     }
     text

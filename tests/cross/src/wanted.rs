@@ -13,7 +13,7 @@ pub const OUT_OF_REACH: &str = "given state: sound, out of reach from fresh";
 const TIMES_OUT_OF_REACH: u64 = 13_700;
 
 /// What only the cross-check reaches, most of it as it speaks of bytes.
-const OWN: [&str; 20] = [
+const OWN: [&str; 23] = [
     "fresh ok",
     "fresh refused 0",
     "fresh refused 19 for its length",
@@ -34,17 +34,14 @@ const OWN: [&str; 20] = [
     "executing refused 1",
     "is_sound ok",
     "is_sound refused 1",
+    "meter refused 0",
+    "meter on no state's bytes",
+    "meter with rows past the tasks",
 ];
-
-/// The library has no meter rows.
-fn is_exported(name: &str) -> bool {
-    !name.starts_with("meter ")
-}
 
 /// Each thing wanted, with how often.
 fn wanted() -> Vec<(String, u64)> {
     let mut names: Vec<String> = Coverage::wanted();
-    names.retain(|name| is_exported(name));
     names.extend(OWN.map(String::from));
     names.extend(Damage::ALL.map(damage_name));
     let times = |name: &str| match name {

@@ -7,6 +7,7 @@ use cross::case::Sides;
 use cross::families::FAMILIES;
 use cross::sides::{Call, Layer, Second};
 use second::generate::coverage::Coverage;
+use second::library::METER_ROW_BYTES;
 use vesztamor::Answer;
 
 /// Which function is wrong.
@@ -18,6 +19,8 @@ enum Wrong {
     /// A granted lock writes one byte too many.
     Step,
     Executing,
+    /// The row past the tasks is written too.
+    Meter,
     Bound,
     /// The number after `granted` is one too high.
     Replay,
@@ -56,6 +59,16 @@ impl Layer for WrongLayer {
             (Wrong::Executing, Answer::Spins(task)) => Answer::Executes(task),
             (_, answer) => answer,
         }
+    }
+
+    fn meter(&self, state: &[u8], rows: &mut [u8]) -> Answer {
+        let answer = Second.meter(state, rows);
+        if let (Wrong::Meter, Answer::Ok(count)) = (self.0, answer) {
+            if let Some(byte) = rows.get_mut(METER_ROW_BYTES * count as usize) {
+                *byte = 0;
+            }
+        }
+        answer
     }
 
     fn bound(&self, sections: &[u8], task: u16, allowance: u32) -> Result<(u64, u32), u32> {
@@ -104,6 +117,11 @@ fn every_function_is_compared() {
         (Wrong::Step, "made-up sound states", "resource 15 queue[15]"),
         (Wrong::Step, "case R", "resource 15 queue[15]"),
         (Wrong::Executing, "made-up sound states", "second: spins"),
+        (
+            Wrong::Meter,
+            "made-up sound states",
+            "row 1: proved [00, a5",
+        ),
         (Wrong::Bound, "section tables", "weighings 5"),
         (Wrong::Replay, "traces", "proved: 3 granted 1"),
         (Wrong::PastText, "damaged traces", "the bytes after them"),

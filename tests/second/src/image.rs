@@ -47,6 +47,16 @@ pub fn decode(bytes: &[u8]) -> Option<State> {
     Some(state)
 }
 
+/// A phase as it stands in a state's bytes and in a meter row's.
+pub fn phase_byte(phase: Phase) -> u8 {
+    match phase {
+        Phase::Idle => 0,
+        Phase::Active => 1,
+        Phase::Running => 2,
+        Phase::Recharging => 3,
+    }
+}
+
 struct Writer(Vec<u8>);
 
 impl Writer {
@@ -69,12 +79,7 @@ impl Writer {
     }
 
     fn server(&mut self, server: &Server) {
-        self.one(match server.phase {
-            Phase::Idle => 0,
-            Phase::Active => 1,
-            Phase::Running => 2,
-            Phase::Recharging => 3,
-        });
+        self.one(phase_byte(server.phase));
         self.four(server.budget);
         self.four(server.deadline);
         self.four(server.quota);

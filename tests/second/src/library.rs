@@ -1,10 +1,11 @@
-//! The six functions of the static library as this program answers them, on numbers and lent bytes:
+//! The functions of the static library as this program answers them, on numbers and lent bytes:
 //! the other side of the cross-check. Layouts and answers are those of docs/STATE.md.
 //!
 //! Assumes nothing of the bytes and numbers. A refusal writes nothing.
 
 use crate::bound::{bound as bound_of, Section, SectionTable, SECTION_LIMIT};
-use crate::image::{decode, encode, STATE_BYTES};
+use crate::image::{decode, encode, phase_byte, STATE_BYTES};
+use crate::meter::{read_meters, MeterRow};
 use crate::refusal::Refusal;
 use crate::replay::replay as listing_of;
 use crate::state::{
@@ -14,6 +15,7 @@ use crate::state::{
 use crate::step::{step as step_of, Event, Outcome};
 
 pub const BOUND_BYTES: usize = 12;
+pub const METER_ROW_BYTES: usize = 17;
 const ROW_BYTES: usize = 10;
 const SECTION_BYTES: usize = 9;
 const NO_PARENT: u8 = 255;
@@ -102,6 +104,35 @@ pub fn executing(state: &[u8], server: u16) -> u64 {
         Execution::Spins(task) => packed(SPINS, u32::from(task.0)),
         Execution::NotRunning => packed(OK, 0),
     }
+}
+
+/// Rows that are not whole are told before the state is looked at.
+pub fn meter(state: &[u8], lent: &mut [u8]) -> u64 {
+    if !lent.len().is_multiple_of(METER_ROW_BYTES) {
+        return refused(WRONG_ROOM);
+    }
+    let Some(state) = decode(state) else {
+        return refused(Refusal::StateNotSound.number());
+    };
+    let mut rows = vec![MeterRow::default(); lent.len() / METER_ROW_BYTES];
+    match read_meters(&state, &mut rows) {
+        Ok(answer) => {
+            let places = lent.chunks_mut(METER_ROW_BYTES);
+            for (place, row) in places.zip(&rows).take(answer.number() as usize) {
+                place.copy_from_slice(&meter_row_bytes(row));
+            }
+            outcome(answer)
+        }
+        Err(refusal) => refused(refusal.number()),
+    }
+}
+
+fn meter_row_bytes(row: &MeterRow) -> Vec<u8> {
+    let mut bytes = vec![phase_byte(row.phase)];
+    for number in [row.budget, row.own, row.lent, row.spin] {
+        bytes.extend(number.to_le_bytes());
+    }
+    bytes
 }
 
 pub fn bound(sections: &[u8], task: u16, allowance: u32, out: &mut [u8]) -> u64 {

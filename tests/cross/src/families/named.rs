@@ -2,11 +2,10 @@
 //!
 //! Assumes that a stored text is a good trace; one that is not ends the program.
 
-use super::traces::{noted_step, replay_case};
+use super::traces::{compared_step, replay_case};
 use crate::case::Case;
-use crate::sides::Call;
 use second::generate::coverage::Coverage;
-use second::image::{encode, STATE_BYTES};
+use second::image::STATE_BYTES;
 use second::library::table_bytes;
 use second::state::{fresh, State};
 use second::trace::{Place, Reading, TableReader};
@@ -22,11 +21,7 @@ pub fn named(text: &[u8], coverage: &mut Coverage) -> Vec<Case> {
         let event = table.accept(record).expect("a named case is in order");
         match (event, table.finished()) {
             (Some(event), _) => {
-                cases.push(Case::Step {
-                    state: encode(&state),
-                    call: Call::from(event),
-                });
-                noted_step(coverage, &mut state, event);
+                cases.extend(compared_step(coverage, &mut state, event));
             }
             (None, Some(table)) => {
                 cases.push(Case::Fresh {

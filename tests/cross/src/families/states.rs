@@ -1,6 +1,6 @@
 //! Given states: sound ones that no events from fresh need reach, ones in which a single clause of
 //! soundness is broken, and ones with a few fields changed to anything, which need be no state's.
-//! On each: is it sound, what does each server do, and one or more events.
+//! On each: is it sound, what does each server do, one or more events, and its meter rows.
 //!
 //! Assumes nothing.
 
@@ -14,8 +14,10 @@ use second::generate::events::{next_event, possible_events, Kind, Manner};
 use second::generate::random::Random;
 use second::generate::states::{broken_state, perturbed_state, sound_state, tangled_state};
 use second::image::{decode, encode};
-use second::state::{fresh, Clause, Execution, ServerNumber, State, TaskNumber};
+use second::library::{meter, METER_ROW_BYTES};
+use second::state::{fresh, Clause, Execution, ServerNumber, State, TaskNumber, TASK_LIMIT};
 use second::step::{step, step_sound, Event};
+use vesztamor::Answer;
 
 /// Server numbers up to one past those that a machine can have, and the largest.
 const LAST_SERVER_ASKED: u16 = 17;
@@ -105,8 +107,9 @@ fn asked_of_sound(random: &mut Random, coverage: &mut Coverage, state: &State) -
         cases.push(noted_step(coverage, &bytes, Some(state), event));
     }
     if random.one_in(10) {
-        cases.push(unknown_kind(random, coverage, bytes));
+        cases.push(unknown_kind(random, coverage, bytes.clone()));
     }
+    cases.push(noted_meter(random, coverage, bytes, Some(state)));
     cases
 }
 
@@ -131,8 +134,9 @@ fn asked_of_any(random: &mut Random, coverage: &mut Coverage, bytes: Vec<u8>) ->
         cases.extend(event.map(|event| noted_step(coverage, &bytes, state.as_ref(), event)));
     }
     if random.one_in(10) {
-        cases.push(unknown_kind(random, coverage, bytes));
+        cases.push(unknown_kind(random, coverage, bytes.clone()));
     }
+    cases.push(noted_meter(random, coverage, bytes, state.as_ref()));
     cases
 }
 
@@ -173,6 +177,37 @@ fn noted_step(coverage: &mut Coverage, bytes: &[u8], state: Option<&State>, even
         state: bytes.to_vec(),
         call: Call::from(event),
     }
+}
+
+/// Rows for as many servers as there are, for fewer or for more; now and then no whole rows.
+fn noted_meter(
+    random: &mut Random,
+    coverage: &mut Coverage,
+    bytes: Vec<u8>,
+    state: Option<&State>,
+) -> Case {
+    let tasks = state.map_or(TASK_LIMIT, |state| usize::from(state.tasks).min(TASK_LIMIT));
+    let lent = match random.index(4) {
+        0 => tasks,
+        1 => tasks.saturating_sub(1),
+        2 => tasks + 1 + random.index(2),
+        _ => random.index(TASK_LIMIT + 3),
+    };
+    let mut room = METER_ROW_BYTES * lent;
+    if random.one_in(10) {
+        room += 1 + random.index(METER_ROW_BYTES - 1);
+    }
+    if state.is_none() {
+        coverage.note("meter on no state's bytes".to_string());
+    }
+    match Answer::of(meter(&bytes, &mut vec![0; room])) {
+        Answer::Refused(number) => coverage.note(format!("meter refused {number}")),
+        _ => coverage.note("meter ok".to_string()),
+    }
+    if lent > tasks {
+        coverage.note("meter with rows past the tasks".to_string());
+    }
+    Case::Meter { state: bytes, room }
 }
 
 fn unknown_kind(random: &mut Random, coverage: &mut Coverage, state: Vec<u8>) -> Case {

@@ -10,6 +10,7 @@ use second::generate::damage::{damaged_trace, trace_with, Damage};
 use second::generate::random::Random;
 use second::generate::runs::Run;
 use second::image::encode;
+use second::library::METER_ROW_BYTES;
 use second::replay::replay;
 use second::state::{fresh, State};
 use second::step::{step_sound, Event};
@@ -67,16 +68,26 @@ pub fn damaged(random: &mut Random, number: u64, coverage: &mut Coverage) -> Vec
     cases
 }
 
+/// One event, and the meter rows after it.
+pub fn compared_step(coverage: &mut Coverage, state: &mut State, event: Event) -> [Case; 2] {
+    let step = Case::Step {
+        state: encode(state),
+        call: Call::from(event),
+    };
+    noted_step(coverage, state, event);
+    let meter = Case::Meter {
+        state: encode(state),
+        room: METER_ROW_BYTES * usize::from(state.tasks),
+    };
+    [step, meter]
+}
+
 pub fn step_by_step(random: &mut Random, _: u64, coverage: &mut Coverage) -> Vec<Case> {
     let run = Run::any(random.draw(), LONGEST);
     let (mut state, _) = fresh(&run.table);
     let mut cases = Vec::new();
     for &event in &run.events {
-        cases.push(Case::Step {
-            state: encode(&state),
-            call: Call::from(event),
-        });
-        noted_step(coverage, &mut state, event);
+        cases.extend(compared_step(coverage, &mut state, event));
     }
     cases
 }

@@ -1,10 +1,12 @@
-//! A state in bytes: the offsets of docs/STATE.md, both ways, and bytes that no state has.
+//! A state in bytes: the offsets of docs/STATE.md, both ways, and bytes that no state has; and meter
+//! rows in bytes.
 //!
 //! Assumes nothing.
 
 use second::generate::random::Random;
 use second::generate::states::{sound_state, tangled_state};
 use second::image::{decode, encode, STATE_BYTES};
+use second::library::{meter, METER_ROW_BYTES};
 use second::state::{Mode, Phase, ResourceNumber, ServerNumber, State, TaskNumber};
 
 const TASKS_AT: usize = 474;
@@ -76,4 +78,26 @@ fn bytes_that_no_state_has() {
         bytes[at] = byte;
         assert_eq!(decode(&bytes), None, "byte {at}");
     }
+}
+
+#[test]
+fn meter_rows_stand_at_their_offsets() {
+    let mut random = Random::new(1);
+    let state = sound_state(&mut random);
+    let bytes = encode(&state);
+    let tasks = usize::from(state.tasks);
+    let mut rows = vec![7; METER_ROW_BYTES * (tasks + 1)];
+    assert_eq!(meter(&bytes, &mut rows), tasks as u64);
+    for (row, server) in rows
+        .chunks(METER_ROW_BYTES)
+        .zip(bytes[10..].chunks(29))
+        .take(tasks)
+    {
+        // phase and budget, then own, lent and spin, as the server has them
+        assert_eq!(row[..5], server[..5]);
+        assert_eq!(row[5..], server[17..]);
+    }
+    assert!(rows[METER_ROW_BYTES * tasks..]
+        .iter()
+        .all(|&byte| byte == 7));
 }

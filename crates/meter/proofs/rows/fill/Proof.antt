@@ -200,7 +200,7 @@ module _
         n-decided = n-is ∙ ap written a-is
 
         within : n ≤ length ys
-        within = omega (arith, n-decided, written-fits st ys)
+        within = omega (arith, n-decided, written-fits st (length ys))
 
         -- i rows are stored: _5 is i, _4 is n, _3 is the answer
         abbrev At : ℕ → List (Item 𝓤)
