@@ -186,6 +186,15 @@ decoded-laid bytes st all e =
     rw (← s) (read-laid bytes all y))
     (λ n. none-some (rw n at e))
 
+-- as many bytes as a state takes
+pub image-long : (bytes : List ℕ) → isImage bytes ≡ true → length bytes ≡ imageSize
+unfolding isImage
+image-long bytes y = eqb-true (length bytes) imageSize (and-left _ _ y)
+
+pub decoded-long : (bytes : List ℕ) (st : State) → decoded bytes ≡ some st → length bytes ≡ imageSize
+unfolding decoded
+decoded-long bytes st e = split (isImage bytes) (λ y. image-long bytes y) (λ n. none-some (rw n at e))
+
 -- what was written is read back, with blank entries past the counts
 pub decoded-encoded
     : (st : State) (bytes : List ℕ) → Fits st → length bytes ≡ imageSize → decoded (encoded st bytes) ≡ some (blankPast st)
@@ -206,10 +215,6 @@ entries-read get size blank bytes at i n m xs ys l g c e h =
 
 -- the ways out of reading and of writing, for the code
 module _ (bytes : List ℕ) where
-  pub image-long : isImage bytes ≡ true → length bytes ≡ imageSize
-  unfolding isImage
-  image-long y = eqb-true (length bytes) imageSize (and-left _ _ y)
-
   pub read-held : (st : State) → isImage bytes ≡ true → st ≡ stateIn bytes → record { answer = Held; state = st } ≡ imagedBy (decoded bytes)
   unfolding decoded
   read-held st y e = rw (y, e)
