@@ -1,4 +1,4 @@
--- The codecs of the parts of a state: sixteen entries, enums, and the records of a server, a task and a resource. Assumes nothing.
+-- The codecs of the parts of a state: entries in a row, enums, and the records of a server, a task and a resource. Assumes nothing.
 use mathlib.Core.Path.{_≡_, refl, sym, ap, subst, _∙_}
 use mathlib.Core.Bool.{true}
 use mathlib.Core.List.{List, append-assoc}
@@ -12,8 +12,8 @@ use borrow.Author.Tests.{ltb-true, eqb-true, eqb-false, ne-eqb}
 use Rattle.laws.specs.Loops.{setTo}
 use Rattle.laws.proofs.Cases.{split, and-left, and-right, and-both}
 use Rattle.laws.proofs.Join.{join-long}
-use Rattle.laws.proofs.Set.{set-at, length-setTo}
-use Rattle.bytes.specs.Numbers.{byteAt, one, two, Fits16}
+use Rattle.laws.proofs.Set.{set-at, set-same, length-setTo}
+use Rattle.bytes.specs.Numbers.{byteAt, one, two, Bytes, Fits16}
 use Rattle.bytes.proofs.Stands.{Stands, stands-part, stands-parts}
 use Rattle.bytes.proofs.Codec.{Codec, _then_, recoded, Any, two-codec, four-codec}
 use Rattle.model.specs.declared.TaskNo.{TaskNo}
@@ -24,44 +24,71 @@ use Rattle.model.specs.declared.Owner.the-variants.{Nobody, By}
 use Rattle.model.specs.declared.Server.{Server}
 use Rattle.model.specs.declared.Task.{Task}
 use Rattle.model.specs.declared.Resource.{Resource}
-use Rattle.model.specs.State.{places, noServer, noTask, noResource}
-use Rattle.model.specs.Fresh.{blankServer, blankTask, blankResource}
+use Rattle.model.specs.State.{places}
 use Rattle.image.specs.declared.Tagged.{Tagged}
 use Rattle.image.specs.Encoded.{phaseTag, modeTagged, runsTagged, ownerTagged, taggedBytes, entryBytes, entries, noTaskNo, taskNoBytes, serverBytes, taskBytes, resourceBytes}
 use Rattle.image.specs.Decoded.{phaseOf, modeOf, runsOf, ownerOf, tagFits, taggedIn, taggedFits, serverFits, taskFits, resourceFits, entryIn, entriesIn, taskNoIn, serverIn, taskIn, resourceIn}
 use Rattle.image.specs.Fits.{FitsEach, FitsTaskNo, FitsServer, FitsTask, FitsResource}
 
--- sixteen entries
+-- the first n entries, of sixteen
+module _
+    {A : Type 0} {size : ℕ} {put : A → List ℕ} {get : List ℕ → ℕ → A} {Fit : A → Type 0} {Good : List ℕ → ℕ → Type 0}
+    (a : Codec size put get Fit Good) (none blank : A) (n : ℕ)
+  where
+    pub entries-long : (xs : List A) → length (entries put none n xs) ≡ size * n
+    unfolding entries entryBytes
+    entries-long xs = join-long (entryBytes put none xs) size (λ i. a .long (getD xs i none)) n
+
+    -- each stands at its place
+    each-stands
+        : (xs : List A) (bytes : List ℕ) (at i : ℕ)
+        → i < n → Stands (entries put none n xs) bytes at → Stands (put (getD xs i none)) bytes (at + size * i)
+    unfolding entries entryBytes
+    each-stands xs bytes at i l h = stands-part (entryBytes put none xs) size (λ j. a .long (getD xs j none)) n i bytes at l h
+
+    module _ (xs : List A) (bytes : List ℕ) (at : ℕ) (fit : (i : ℕ) → i < n → Fit (getD xs i none)) (h : Stands (entries put none n xs) bytes at) where
+      pub entries-back : entriesIn get size blank n bytes at ≡ setTo n (λ i. getD xs i none) (replicate places blank)
+      unfolding entriesIn entryIn
+      entries-back =
+          set-same (entryIn get size bytes at) (λ i. getD xs i none) n (replicate places blank)
+          (λ i l. a .back (getD xs i none) bytes (at + size * i) (fit i l) (each-stands xs bytes at i l h))
+
+      pub entries-good : (i : ℕ) → i < n → Good bytes (at + size * i)
+      entries-good i l = a .good (getD xs i none) bytes (at + size * i) (fit i l) (each-stands xs bytes at i l h)
+
+    pub entries-forth
+        : (bytes : List ℕ) (at : ℕ) → n ≤ places → Bytes bytes → ((i : ℕ) → i < n → Good bytes (at + size * i))
+        → Stands (entries put none n (entriesIn get size blank n bytes at)) bytes at
+    unfolding entries entryBytes entriesIn entryIn
+    entries-forth bytes at most all g =
+        stands-parts (entryBytes put none (entriesIn get size blank n bytes at)) size (λ j. a .long _) n bytes at
+        (λ i l.
+        subst (λ x. Stands (put x) bytes (at + size * i))
+        (sym (set-at n i (entryIn get size bytes at) (replicate places blank) none l (rw length-replicate (omega arith))))
+        (a .forth bytes (at + size * i) all (g i l)))
+
+-- all sixteen
 module _
     {A : Type 0} {size : ℕ} {put : A → List ℕ} {get : List ℕ → ℕ → A} {Fit : A → Type 0} {Good : List ℕ → ℕ → Type 0}
     (a : Codec size put get Fit Good) (none blank : A)
   where
-    pub sixteen
+    sixteen
         : Codec (size * places)
-        (entries put none)
-        (entriesIn get size blank)
+        (entries put none places)
+        (entriesIn get size blank places)
         (FitsEach Fit none)
         (λ bytes at. (i : ℕ) → i < places → Good bytes (at + size * i))
-    unfolding entries entryBytes entriesIn entryIn
     sixteen = record {
-      long = λ xs. join-long (entryBytes put none xs) size (λ i. a .long (getD xs i none)) places;
+      long = entries-long a none blank places;
       back = λ xs bytes at fit h.
-          ext-getD none (setTo places (entryIn get size bytes at) (replicate places blank)) xs
-          (length-setTo places (entryIn get size bytes at) (replicate places blank) ∙ length-replicate places blank ∙ sym (fit .long))
+          entries-back a none blank places xs bytes at (fit .each) h
+          ∙ ext-getD none (setTo places (λ i. getD xs i none) (replicate places blank)) xs
+          (length-setTo places (λ i. getD xs i none) (replicate places blank) ∙ length-replicate places blank ∙ sym (fit .long))
           (λ i l.
-          let k : i < places = omega (arith, length-setTo places (entryIn get size bytes at) (replicate places blank), length-replicate places blank) in
-          set-at places i (entryIn get size bytes at) (replicate places blank) none k (rw length-replicate k)
-          ∙ a .back (getD xs i none) bytes (at + size * i) (fit .each i k)
-          (stands-part (entryBytes put none xs) size (λ j. a .long (getD xs j none)) places i bytes at k h));
-      good = λ xs bytes at fit h i l.
-          a .good (getD xs i none) bytes (at + size * i) (fit .each i l)
-          (stands-part (entryBytes put none xs) size (λ j. a .long (getD xs j none)) places i bytes at l h);
-      forth = λ bytes at all g.
-          stands-parts (entryBytes put none (entriesIn get size blank bytes at)) size (λ j. a .long _) places bytes at
-          (λ i l.
-          subst (λ x. Stands (put x) bytes (at + size * i))
-          (sym (set-at places i (entryIn get size bytes at) (replicate places blank) none l (rw length-replicate l)))
-          (a .forth bytes (at + size * i) all (g i l)));
+          let k : i < places = omega (arith, length-setTo places (λ i. getD xs i none) (replicate places blank), length-replicate places blank) in
+          set-at places i (λ i. getD xs i none) (replicate places blank) none k (rw length-replicate k));
+      good = λ xs bytes at fit h. entries-good a none blank places xs bytes at (fit .each) h;
+      forth = λ bytes at all g. entries-forth a none blank places bytes at (omega arith) all g;
     }
 
 task-no-codec : Codec 2 taskNoBytes taskNoIn FitsTaskNo Any
@@ -220,17 +247,8 @@ pub tagged-long : (t : Tagged) → length (taggedBytes t) ≡ 3
 unfolding taggedBytes one two
 tagged-long t = refl
 
-pub held-long : (held : List ℕ) → length (entries two 0 held) ≡ 32
+pub held-long : (held : List ℕ) → length (entries two 0 places held) ≡ 32
 held-long held = sixteen two-codec 0 0 .long held
 
-pub queue-long : (queue : List TaskNo) → length (entries taskNoBytes noTaskNo queue) ≡ 32
+pub queue-long : (queue : List TaskNo) → length (entries taskNoBytes noTaskNo places queue) ≡ 32
 queue-long queue = sixteen task-no-codec noTaskNo noTaskNo .long queue
-
-pub servers-long : (servers : List Server) → length (entries serverBytes noServer servers) ≡ 464
-servers-long servers = sixteen server-codec noServer blankServer .long servers
-
-pub tasks-long : (tasks : List Task) → length (entries taskBytes noTask tasks) ≡ 736
-tasks-long tasks = sixteen task-codec noTask blankTask .long tasks
-
-pub resources-long : (resources : List Resource) → length (entries resourceBytes noResource resources) ≡ 592
-resources-long resources = sixteen resource-codec noResource blankResource .long resources

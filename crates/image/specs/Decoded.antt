@@ -1,5 +1,6 @@
--- The state that an image holds, and which bytes are images: those of the one length whose variants are in range, with 0 where a variant holds no
--- number. Any other bytes are no state's (law `encoded-decoded`) and are refused. Assumes nothing.
+-- The state that an image holds, and which bytes are images: those of the one length in whose entries in use the variants are in range, with 0 where a
+-- variant holds no number. Any other bytes are no state's (law `encoded-decoded`) and are refused. Entries past the counts are not read: whatever stands
+-- there, the state has blank ones (rule 1.7). Assumes nothing.
 use mathlib.Core.Bool.{Bool, _&&_, _||_}
 use mathlib.Core.List.{List}
 use mathlib.Core.Option.{Option, none, some}
@@ -27,7 +28,7 @@ use Rattle.model.specs.Fresh.{blankServer, blankTask, blankResource, unusable}
 use Rattle.image.specs.declared.Tagged.{Tagged}
 use Rattle.image.specs.declared.ImageAnswer.the-variants.{Held, Refused}
 use Rattle.image.specs.declared.Imaged.{Imaged}
-use Rattle.image.specs.Layout.{serverSize, taskSize, resourceSize, serversOffset, tasksOffset, resourcesOffset, imageSize}
+use Rattle.image.specs.Layout.{serverSize, taskSize, resourceSize, serversOffset, tasksOffset, resourcesOffset, imageSize, used}
 use Rattle.image.specs.Encoded.{noTaskNo}
 
 -- the variant of a number, the last one for any number past it
@@ -62,20 +63,30 @@ taskFits bytes at = taggedFits 2 bytes at && taggedFits 1 bytes (at + 3)
 unfoldable pub resourceFits : List ℕ → ℕ → Bool
 resourceFits bytes at = taggedFits 1 bytes at
 
-unfoldable pub entriesFit : List ℕ → ℕ → Bool
-entriesFit bytes i =
-    serverFits bytes (serversOffset + serverSize * i)
-    && (taskFits bytes (tasksOffset + taskSize * i) && resourceFits bytes (resourcesOffset + resourceSize * i))
+-- how many servers and tasks, and how many resources, the header says to be in use
+abbrev pub tasksUsed : List ℕ → ℕ
+tasksUsed bytes = used (twoBytes bytes 2)
+
+abbrev pub resourcesUsed : List ℕ → ℕ
+resourcesUsed bytes = used (twoBytes bytes 4)
+
+-- server and task i
+unfoldable pub taskEntriesFit : List ℕ → ℕ → Bool
+taskEntriesFit bytes i = serverFits bytes (serversOffset + serverSize * i) && taskFits bytes (tasksOffset + taskSize * i)
+
+unfoldable pub resourceEntryFits : List ℕ → ℕ → Bool
+resourceEntryFits bytes r = resourceFits bytes (resourcesOffset + resourceSize * r)
 
 unfoldable pub isImage : List ℕ → Bool
-isImage bytes = eqb (length bytes) imageSize && allTo places (entriesFit bytes)
+isImage bytes =
+    eqb (length bytes) imageSize && (allTo (tasksUsed bytes) (taskEntriesFit bytes) && allTo (resourcesUsed bytes) (resourceEntryFits bytes))
 
--- sixteen entries of one size from an offset on
+-- the first n entries of one size from an offset on; the others are blank
 unfoldable pub entryIn : {A : Type 0} → (List ℕ → ℕ → A) → ℕ → List ℕ → ℕ → ℕ → A
 entryIn get size bytes at i = get bytes (at + size * i)
 
-unfoldable pub entriesIn : {A : Type 0} → (List ℕ → ℕ → A) → ℕ → A → List ℕ → ℕ → List A
-entriesIn get size blank bytes at = setTo places (entryIn get size bytes at) (replicate places blank)
+unfoldable pub entriesIn : {A : Type 0} → (List ℕ → ℕ → A) → ℕ → A → ℕ → List ℕ → ℕ → List A
+entriesIn get size blank n bytes at = setTo n (entryIn get size bytes at) (replicate places blank)
 
 abbrev pub taskNoIn : List ℕ → ℕ → TaskNo
 taskNoIn bytes at = record { 0 = twoBytes bytes at }
@@ -99,14 +110,14 @@ taskIn bytes at = record {
   declared = twoBytes bytes (at + 6);
   depth = twoBytes bytes (at + 8);
   executed = fourBytes bytes (at + 10);
-  held = entriesIn twoBytes 2 0 bytes (at + 14);
+  held = entriesIn twoBytes 2 0 places bytes (at + 14);
 }
 
 unfoldable pub resourceIn : List ℕ → ℕ → Resource
 resourceIn bytes at = record {
   owner = ownerOf (taggedIn bytes at);
   waiting = twoBytes bytes (at + 3);
-  queue = entriesIn taskNoIn 2 noTaskNo bytes (at + 5);
+  queue = entriesIn taskNoIn 2 noTaskNo places bytes (at + 5);
 }
 
 unfoldable pub stateIn : List ℕ → State
@@ -115,15 +126,15 @@ stateIn bytes = record {
   tasks = twoBytes bytes 2;
   resources = twoBytes bytes 4;
   clock = fourBytes bytes 6;
-  server = entriesIn serverIn serverSize blankServer bytes serversOffset;
-  task = entriesIn taskIn taskSize blankTask bytes tasksOffset;
-  resource = entriesIn resourceIn resourceSize blankResource bytes resourcesOffset;
+  server = entriesIn serverIn serverSize blankServer (tasksUsed bytes) bytes serversOffset;
+  task = entriesIn taskIn taskSize blankTask (tasksUsed bytes) bytes tasksOffset;
+  resource = entriesIn resourceIn resourceSize blankResource (resourcesUsed bytes) bytes resourcesOffset;
 }
 
 unfoldable pub decoded : List ℕ → Option State
 decoded bytes = if isImage bytes then some (stateIn bytes) else none
 
--- what reading gives back: "1 state not sound" and no state of use where the bytes are no state's
+-- what reading gives back: 1 and no state of use where the bytes are no state's (rule 1.7)
 abbrev pub imagedBy : Option State → Imaged
 imagedBy none = record { answer = Refused 1; state = unusable }
 imagedBy (some st) = record { answer = Held; state = st }

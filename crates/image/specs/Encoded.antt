@@ -1,5 +1,5 @@
--- The image of a state, field by field. Numbers are little-endian; an enum is the number of its variant, and then the number that the variant
--- holds, which is 0 where it holds none. Assumes nothing.
+-- A state in lent bytes, field by field: what writing leaves there. Numbers are little-endian; an enum is the number of its variant, and then the number
+-- that the variant holds, which is 0 where it holds none. Entries past the counts are not written (rule 1.7). Assumes nothing.
 use mathlib.Core.List.{List, _++_}
 use Prim.Native.Nat.{ℕ}
 use lib.Dec.{eqb}
@@ -7,6 +7,7 @@ use lib.ListN.{length, getD}
 use Rattle.laws.specs.Tests.{if_then_else_}
 use Rattle.laws.specs.Loops.{joinTo}
 use Rattle.bytes.specs.Numbers.{one, two, four}
+use Rattle.bytes.specs.Writing.{stored}
 use Rattle.model.specs.declared.TaskNo.{TaskNo}
 use Rattle.model.specs.declared.Phase.{Phase}
 use Rattle.model.specs.declared.Phase.the-variants.{Idle, Active, Running, Recharging}
@@ -22,7 +23,7 @@ use Rattle.model.specs.declared.Resource.{Resource}
 use Rattle.model.specs.declared.State.{State}
 use Rattle.model.specs.State.{places, noServer, noTask, noResource}
 use Rattle.image.specs.declared.Tagged.{Tagged}
-use Rattle.image.specs.Layout.{imageSize}
+use Rattle.image.specs.Layout.{serversOffset, tasksOffset, resourcesOffset, imageSize, used}
 
 abbrev pub phaseTag : Phase → ℕ
 phaseTag Idle = 0
@@ -46,12 +47,12 @@ ownerTagged (By t) = record { tag = 1; number = t .0 }
 unfoldable pub taggedBytes : Tagged → List ℕ
 taggedBytes t = one (t .tag) ++ two (t .number)
 
--- sixteen entries one after the other
+-- the first n entries one after the other
 unfoldable pub entryBytes : {A : Type 0} → (A → List ℕ) → A → List A → ℕ → List ℕ
 entryBytes bytes none xs i = bytes (getD xs i none)
 
-unfoldable pub entries : {A : Type 0} → (A → List ℕ) → A → List A → List ℕ
-entries bytes none xs = joinTo places (entryBytes bytes none xs)
+unfoldable pub entries : {A : Type 0} → (A → List ℕ) → A → ℕ → List A → List ℕ
+entries bytes none n xs = joinTo n (entryBytes bytes none xs)
 
 abbrev pub noTaskNo : TaskNo
 noTaskNo = record { 0 = 0 }
@@ -77,24 +78,33 @@ taskBytes t =
     ++ two (t .declared)
     ++ two (t .depth)
     ++ four (t .executed)
-    ++ entries two 0 (t .held)
+    ++ entries two 0 places (t .held)
 
 unfoldable pub resourceBytes : Resource → List ℕ
 resourceBytes r =
     taggedBytes (ownerTagged (r .owner))
     ++ two (r .waiting)
-    ++ entries taskNoBytes noTaskNo (r .queue)
+    ++ entries taskNoBytes noTaskNo places (r .queue)
 
-unfoldable pub encoded : State → List ℕ
-encoded st =
-    two (st .processors)
-    ++ two (st .tasks)
-    ++ two (st .resources)
-    ++ four (st .clock)
-    ++ entries serverBytes noServer (st .server)
-    ++ entries taskBytes noTask (st .task)
-    ++ entries resourceBytes noResource (st .resource)
+unfoldable pub headerBytes : State → List ℕ
+headerBytes st = two (st .processors) ++ two (st .tasks) ++ two (st .resources) ++ four (st .clock)
 
--- what writing leaves of the bytes: the image where they are as many as it has, else what they were
+abbrev pub serversBytes : State → List ℕ
+serversBytes st = entries serverBytes noServer (used (st .tasks)) (st .server)
+
+abbrev pub tasksBytes : State → List ℕ
+tasksBytes st = entries taskBytes noTask (used (st .tasks)) (st .task)
+
+abbrev pub resourcesBytes : State → List ℕ
+resourcesBytes st = entries resourceBytes noResource (used (st .resources)) (st .resource)
+
+-- the header and the entries in use, each part at its offset, and every other byte as it came
+unfoldable pub encoded : State → List ℕ → List ℕ
+encoded st bytes =
+    stored
+    (stored (stored (stored bytes 0 (headerBytes st)) serversOffset (serversBytes st)) tasksOffset (tasksBytes st))
+    resourcesOffset (resourcesBytes st)
+
+-- what writing leaves of the bytes: nothing is written where they are not as many as a state takes
 abbrev pub written : State → List ℕ → List ℕ
-written st bytes = if eqb (length bytes) imageSize then encoded st else bytes
+written st bytes = if eqb (length bytes) imageSize then encoded st bytes else bytes

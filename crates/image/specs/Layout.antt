@@ -1,5 +1,6 @@
--- Where the parts of a state stand in its image: fixed offsets and sizes, in bytes, as docs/STATE.md has them in a table. Assumes nothing.
-use Prim.Native.Nat.{ℕ, _+_, _*_}
+-- Where the parts of a state stand in its image: fixed offsets and sizes, in bytes, as docs/STATE.md has them in a table; and how many entries of a part
+-- are in use. Assumes nothing.
+use Prim.Native.Nat.{ℕ, _+_, _*_, min}
 use Rattle.model.specs.State.{places}
 
 -- processors, tasks, resources, clock
@@ -29,3 +30,7 @@ resourcesOffset = tasksOffset + taskSize * places
 
 abbrev pub imageSize : ℕ
 imageSize = resourcesOffset + resourceSize * places
+
+-- how many entries are in use: as many as the count says, and no more than there are places (rule 1.7)
+abbrev pub used : ℕ → ℕ
+used count = min count places

@@ -1,4 +1,5 @@
-// A state read out of lent bytes. Each function of an entry is given an offset at which the entry lies whole in the slice; `read` assumes nothing.
+// A state read out of lent bytes: the header and the entries in use; the others are blank, whatever stands in their bytes. Each function of an entry is
+// given an offset at which the entry lies whole in the slice; `read` assumes nothing.
 ghost use mathlib.Core.Path.{_≡_};
 ghost use Prim.Native.Nat.{_+_, _≤_};
 ghost use lib.ListN.{length};
@@ -20,6 +21,7 @@ use crate::tags::phase_of;
 use crate::tags::runs_of;
 use crate::tags::tagged_in;
 use crate::testing::is_image;
+use crate::testing::used;
 use bytes::numbers::four_bytes;
 use bytes::numbers::two_bytes;
 use model::Resource;
@@ -56,7 +58,7 @@ fn server_in(bytes: &[u8], at: usize) -> Server
 
 fn held_in(bytes: &[u8], at: usize) -> [u16; 16]
     requires { ⌜ at + 32 ≤ length (now bytes) ⌝ }
-    ensures { λ r. ⌜ r ≡ entriesIn twoBytes 2 0 (now (bytes .entry)) at ⌝ }
+    ensures { λ r. ⌜ r ≡ entriesIn twoBytes 2 0 16 (now (bytes .entry)) at ⌝ }
 {
     let mut held = [0u16; 16];
     for i in 0..16usize {
@@ -87,7 +89,7 @@ fn task_in(bytes: &[u8], at: usize) -> Task
 
 fn queue_in(bytes: &[u8], at: usize) -> [TaskNo; 16]
     requires { ⌜ at + 32 ≤ length (now bytes) ⌝ }
-    ensures { λ r. ⌜ r ≡ entriesIn taskNoIn 2 noTaskNo (now (bytes .entry)) at ⌝ }
+    ensures { λ r. ⌜ r ≡ entriesIn taskNoIn 2 noTaskNo 16 (now (bytes .entry)) at ⌝ }
 {
     let none = TaskNo(0);
     let mut queue = [none; 16];
@@ -115,19 +117,23 @@ fn state_in(bytes: &[u8]) -> State
     requires { ⌜ length (now bytes) ≡ imageSize ⌝ }
     ensures { λ r. ⌜ r ≡ stateIn (now (bytes .entry)) ⌝ }
 {
-    let blank = unusable_state();
-    let mut server = blank.server;
-    let mut task = blank.task;
-    let mut resource = blank.resource;
-    for i in 0..16usize {
-        server[i] = server_in(bytes, SERVERS_OFFSET + SERVER_SIZE * i);
-        task[i] = task_in(bytes, TASKS_OFFSET + TASK_SIZE * i);
-        resource[i] = resource_in(bytes, RESOURCES_OFFSET + RESOURCE_SIZE * i);
-    }
     let processors = two_bytes(bytes, 0);
     let tasks = two_bytes(bytes, 2);
     let resources = two_bytes(bytes, 4);
     let clock = four_bytes(bytes, 6);
+    let blank = unusable_state();
+    let mut server = blank.server;
+    let mut task = blank.task;
+    let mut resource = blank.resource;
+    let tasks_used = used(tasks);
+    for i in 0..tasks_used {
+        server[i] = server_in(bytes, SERVERS_OFFSET + SERVER_SIZE * i);
+        task[i] = task_in(bytes, TASKS_OFFSET + TASK_SIZE * i);
+    }
+    let resources_used = used(resources);
+    for i in 0..resources_used {
+        resource[i] = resource_in(bytes, RESOURCES_OFFSET + RESOURCE_SIZE * i);
+    }
     State {
         processors,
         tasks,

@@ -1,4 +1,5 @@
-// A state written into lent bytes. Each function of an entry is given an offset at which the entry lies whole in the slice; `write` assumes nothing.
+// A state written into lent bytes: the header and the entries in use; every other byte stays. Each function of an entry is given an offset at which the
+// entry lies whole in the slice; `write` assumes nothing.
 ghost use mathlib.Core.Path.{_≡_};
 ghost use Prim.Native.Nat.{_+_, _≤_};
 ghost use lib.Dec.{eqb};
@@ -20,6 +21,7 @@ use crate::tags::mode_tagged;
 use crate::tags::owner_tagged;
 use crate::tags::phase_tag;
 use crate::tags::runs_tagged;
+use crate::testing::used;
 use bytes::numbers::put_four;
 use bytes::numbers::put_one;
 use bytes::numbers::put_two;
@@ -54,7 +56,7 @@ fn put_server(bytes: &mut [u8], at: usize, s: Server)
 
 fn put_held(bytes: &mut [u8], at: usize, held: [u16; 16])
     requires { ⌜ at + 32 ≤ length (now bytes) ⌝ }
-    ensures { λ _. ⌜ now (bytes .exit) ≡ stored (now (bytes .entry)) at (entries two 0 held) ⌝ }
+    ensures { λ _. ⌜ now (bytes .exit) ≡ stored (now (bytes .entry)) at (entries two 0 16 held) ⌝ }
 {
     for i in 0..16usize {
         put_two(bytes, at + 2 * i, held[i]);
@@ -78,7 +80,7 @@ fn put_task(bytes: &mut [u8], at: usize, t: Task)
 
 fn put_queue(bytes: &mut [u8], at: usize, queue: [TaskNo; 16])
     requires { ⌜ at + 32 ≤ length (now bytes) ⌝ }
-    ensures { λ _. ⌜ now (bytes .exit) ≡ stored (now (bytes .entry)) at (entries taskNoBytes noTaskNo queue) ⌝ }
+    ensures { λ _. ⌜ now (bytes .exit) ≡ stored (now (bytes .entry)) at (entries taskNoBytes noTaskNo 16 queue) ⌝ }
 {
     for i in 0..16usize {
         let t = queue[i];
@@ -97,37 +99,37 @@ fn put_resource(bytes: &mut [u8], at: usize, r: Resource)
     put_queue(bytes, at + 5, queue);
 }
 
-fn put_servers(bytes: &mut [u8], servers: [Server; 16])
-    requires { ⌜ length (now bytes) ≡ imageSize ⌝ }
-    ensures { λ _. ⌜ now (bytes .exit) ≡ stored (now (bytes .entry)) serversOffset (entries serverBytes noServer servers) ⌝ }
+fn put_servers(bytes: &mut [u8], n: usize, servers: [Server; 16])
+    requires { ⌜ (length (now bytes) ≡ imageSize) × (n ≤ 16) ⌝ }
+    ensures { λ _. ⌜ now (bytes .exit) ≡ stored (now (bytes .entry)) serversOffset (entries serverBytes noServer n servers) ⌝ }
 {
-    for i in 0..16usize {
+    for i in 0..n {
         let s = servers[i];
         put_server(bytes, SERVERS_OFFSET + SERVER_SIZE * i, s);
     }
 }
 
-fn put_tasks(bytes: &mut [u8], tasks: [Task; 16])
-    requires { ⌜ length (now bytes) ≡ imageSize ⌝ }
-    ensures { λ _. ⌜ now (bytes .exit) ≡ stored (now (bytes .entry)) tasksOffset (entries taskBytes noTask tasks) ⌝ }
+fn put_tasks(bytes: &mut [u8], n: usize, tasks: [Task; 16])
+    requires { ⌜ (length (now bytes) ≡ imageSize) × (n ≤ 16) ⌝ }
+    ensures { λ _. ⌜ now (bytes .exit) ≡ stored (now (bytes .entry)) tasksOffset (entries taskBytes noTask n tasks) ⌝ }
 {
-    for i in 0..16usize {
+    for i in 0..n {
         let t = tasks[i];
         put_task(bytes, TASKS_OFFSET + TASK_SIZE * i, t);
     }
 }
 
-fn put_resources(bytes: &mut [u8], resources: [Resource; 16])
-    requires { ⌜ length (now bytes) ≡ imageSize ⌝ }
-    ensures { λ _. ⌜ now (bytes .exit) ≡ stored (now (bytes .entry)) resourcesOffset (entries resourceBytes noResource resources) ⌝ }
+fn put_resources(bytes: &mut [u8], n: usize, resources: [Resource; 16])
+    requires { ⌜ (length (now bytes) ≡ imageSize) × (n ≤ 16) ⌝ }
+    ensures { λ _. ⌜ now (bytes .exit) ≡ stored (now (bytes .entry)) resourcesOffset (entries resourceBytes noResource n resources) ⌝ }
 {
-    for i in 0..16usize {
+    for i in 0..n {
         let r = resources[i];
         put_resource(bytes, RESOURCES_OFFSET + RESOURCE_SIZE * i, r);
     }
 }
 
-// The state's image in place of the bytes, and whether they were as many as it has; where they were not, nothing is written.
+// The header and the entries in use in place of their bytes, and whether the bytes were as many as a state takes; where they were not, nothing is written.
 pub fn write(st: State, bytes: &mut [u8]) -> bool
     ensures answer { λ r. ⌜ r ≡ eqb (length (now (bytes .entry))) imageSize ⌝ }
     ensures image { λ r. ⌜ now (bytes .exit) ≡ written st (now (bytes .entry)) ⌝ }
@@ -138,12 +140,14 @@ pub fn write(st: State, bytes: &mut [u8]) -> bool
     let servers = st.server;
     let tasks = st.task;
     let resources = st.resource;
+    let tasks_used = used(st.tasks);
+    let resources_used = used(st.resources);
     put_two(bytes, 0, st.processors);
     put_two(bytes, 2, st.tasks);
     put_two(bytes, 4, st.resources);
     put_four(bytes, 6, st.clock);
-    put_servers(bytes, servers);
-    put_tasks(bytes, tasks);
-    put_resources(bytes, resources);
+    put_servers(bytes, tasks_used, servers);
+    put_tasks(bytes, tasks_used, tasks);
+    put_resources(bytes, resources_used, resources);
     true
 }

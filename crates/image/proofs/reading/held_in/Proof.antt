@@ -22,4 +22,4 @@ held-in-spec =
     (λ c. omega arith) (λ c. omega arith) (λ c κs. omega arith) (λ c. omega arith) (λ c. omega arith) (λ c. omega arith)
     (λ c. omega arith)
     (λ c. (omega arith, set-more _ _ _ _ _ (c .two-bytes .ensures) (c .before .before .loop .inv .1)))
-    (λ c. entries-read _ _ _ _ _ _ _ _ (c .before .loop .inv .0) (c .loop-test .left) refl (c .before .loop .inv .1)))
+    (λ c. entries-read _ _ _ _ _ _ _ _ _ _ (c .before .loop .inv .0) (c .loop-test .left) refl refl (c .before .loop .inv .1)))

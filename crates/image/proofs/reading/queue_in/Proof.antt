@@ -22,4 +22,4 @@ queue-in-spec =
     (λ c. omega arith) (λ c. omega arith) (λ c κs. omega arith) (λ c. omega arith) (λ c. omega arith) (λ c. omega arith)
     (λ c. omega arith)
     (λ c. (omega arith, set-more _ _ _ _ _ (λ j. record { 0 = c .two-bytes .ensures j }) (c .before .before .loop .inv .1)))
-    (λ c. entries-read _ _ _ _ _ _ _ _ (c .before .loop .inv .0) (c .loop-test .left) refl (c .before .loop .inv .1)))
+    (λ c. entries-read _ _ _ _ _ _ _ _ _ _ (c .before .loop .inv .0) (c .loop-test .left) refl refl (c .before .loop .inv .1)))

@@ -1,13 +1,8 @@
 -- `image::testing::is_image` meets its contract. Assumes nothing.
-use mathlib.Core.Path.{_≡_, sym, _∙_}
-use mathlib.Core.Bool.{true}
-use Prim.Native.Nat.{_≤_, _-_}
-use borrow.Author.Tests.{ne-eqb, eq-eqb, not-true, not-false}
-use native.Mathlib.Omega.{arith}
-use Rattle.laws.specs.Loops.{allTo}
+use mathlib.Core.Path.{sym, _∙_}
+use borrow.Author.Tests.{ne-eqb, eq-eqb}
 use Rattle.laws.proofs.Cases.{and-yes, and-no}
-use Rattle.laws.proofs.All.{all-none, all-more, all-done, all-fails}
-use Rattle.image.specs.Decoded.{entriesFit, isImage}
+use Rattle.image.specs.Decoded.{isImage}
 use Rattle.image.proofs.testing.is_image.Statement.{statement}
 use Rattle.image.proofs.testing.is_image.Tie as tie
 
@@ -16,20 +11,10 @@ unfolding isImage
 is-image-spec =
     tie.close
     (tie.spec
-    (λ bytes i₀ i. (i ≤ 16) × (true ≡ allTo i (entriesFit bytes)))
-    (λ bytes i₀ i. 16 - i)
     (λ c. and-no _ _ (ne-eqb _ _ (c .if1 .taken)))
-    (λ c. (omega arith, all-none _))
-    (λ c κs. (c .before .before .if1 .left, c .loop-test .taken))
+    (λ c κs. c .if1 .left)
+    (λ c κs. c .before .before .if1 .left)
     (λ c.
-    let turn = c .before .before in
-    and-yes _ _ _ (eq-eqb _ _ (turn .before .before .if1 .left))
-    (all-fails _ _ _ (turn .loop-test .taken) (sym (not-true _ (c .if2 .taken)) ∙ c .before .entries-fit .ensures)))
-    (λ c. omega arith) (λ c. omega arith)
-    (λ c. (
-      omega arith,
-      all-more _ _ (sym (not-false _ (c .if2 .left)) ∙ c .before .entries-fit .ensures) (c .before .before .before .loop .inv .1),
-    ))
-    (λ c.
-    let loop = c .before in
-    and-yes _ _ _ (eq-eqb _ _ (loop .before .if1 .left)) (all-done _ _ _ (loop .loop .inv .0) (c .loop-test .left) (loop .loop .inv .1))))
+    let tasks = c .before .before in
+    and-yes _ _ _ (eq-eqb _ _ (tasks .before .if1 .left)) (and-yes _ _ _ (sym (tasks .tasks-fit .ensures) ∙ c .before .if2 .taken) (c .resources-fit .ensures)))
+    (λ c. and-yes _ _ _ (eq-eqb _ _ (c .before .before .if1 .left)) (and-no _ _ (sym (c .before .tasks-fit .ensures) ∙ c .if2 .left))))

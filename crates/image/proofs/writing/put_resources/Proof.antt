@@ -13,8 +13,8 @@ unfolding entries entryBytes
 put-resources-spec =
     tie.close
     (tie.spec
-    (λ bytes₀ resources i₀ bytes i. Filled 16 (entryBytes resourceBytes noResource resources) bytes₀ 1210 bytes i)
-    (λ bytes₀ resources i₀ bytes i. 16 - i)
+    (λ bytes₀ n resources i₀ bytes i. Filled n (entryBytes resourceBytes noResource resources) bytes₀ 1210 bytes i)
+    (λ bytes₀ n resources i₀ bytes i. n - i)
     (λ c. filled-none _ _ _ _)
     (λ c. omega arith) (λ c. omega arith) (λ c. omega arith) (λ c. omega arith) (λ c κs. omega arith) (λ c. omega arith)
     (λ c. omega arith)

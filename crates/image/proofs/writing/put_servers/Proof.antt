@@ -13,8 +13,8 @@ unfolding entries entryBytes
 put-servers-spec =
     tie.close
     (tie.spec
-    (λ bytes₀ servers i₀ bytes i. Filled 16 (entryBytes serverBytes noServer servers) bytes₀ 10 bytes i)
-    (λ bytes₀ servers i₀ bytes i. 16 - i)
+    (λ bytes₀ n servers i₀ bytes i. Filled n (entryBytes serverBytes noServer servers) bytes₀ 10 bytes i)
+    (λ bytes₀ n servers i₀ bytes i. n - i)
     (λ c. filled-none _ _ _ _)
     (λ c. omega arith) (λ c. omega arith) (λ c. omega arith) (λ c. omega arith) (λ c κs. omega arith) (λ c. omega arith)
     (λ c. omega arith)

@@ -13,8 +13,8 @@ unfolding entries entryBytes
 put-tasks-spec =
     tie.close
     (tie.spec
-    (λ bytes₀ tasks i₀ bytes i. Filled 16 (entryBytes taskBytes noTask tasks) bytes₀ 474 bytes i)
-    (λ bytes₀ tasks i₀ bytes i. 16 - i)
+    (λ bytes₀ n tasks i₀ bytes i. Filled n (entryBytes taskBytes noTask tasks) bytes₀ 474 bytes i)
+    (λ bytes₀ n tasks i₀ bytes i. n - i)
     (λ c. filled-none _ _ _ _)
     (λ c. omega arith) (λ c. omega arith) (λ c. omega arith) (λ c. omega arith) (λ c κs. omega arith) (λ c. omega arith)
     (λ c. omega arith)
