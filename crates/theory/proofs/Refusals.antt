@@ -8,7 +8,7 @@ use Rattle.model.specs.Sound.{sound}
 use Rattle.model.specs.Step.{tests, stateAfter, outcome, stepped}
 use Rattle.model.specs.Said.{isRefused}
 use Rattle.model.proofs.Sound.{Loose, sound-facts}
-use Rattle.theory.specs.Runs.{refusedBy, numbers, Among}
+use Rattle.theory.specs.Runs.{refusedBy, numbers, numbersOf, risingFrom, Among}
 use Rattle.model.proofs.Grounds.{Grounds, grounds, unrefused-free}
 use Rattle.theory.proofs.Outcomes.{stepped-sound, answered-not, goes-none}
 
@@ -48,11 +48,7 @@ module _ (st : State) (e : Event) (s : sound st ≡ true) (goes : isRefused (ste
   pub goes-loose : Loose st
   goes-loose = sound-facts st .holds s .is-loose
 
--- the numbers of tests, and that the first that holds has one of them
-unfoldable numbersOf : List (ℕ × Bool) → List ℕ
-numbersOf [] = []
-numbersOf (t ∷ ts) = t .0 ∷ numbersOf ts
-
+-- the first test that holds has one of the tests' numbers
 first-among : (ts : List (ℕ × Bool)) (n : ℕ) → firstOf ts ≡ some n → Among n (numbersOf ts)
 unfolding firstOf Among numbersOf
 first-among [] n h = none-some h
@@ -72,7 +68,8 @@ unfolding Among
 among-by n ts (inl e) = rw (eq-eqb n 1 e) tt
 among-by n ts (inr h) = split (eqb n 1) (λ y. rw y tt) (λ m. rw m (first-among ts n h))
 
-listed-are : (st : State) (e : Event) → 1 ∷ numbersOf (tests st e) ≡ numbers e
+-- rule 10.2: an event's tests, with that of soundness before them, have the listed numbers in their order, which ascends
+pub listed-are : (st : State) (e : Event) → 1 ∷ numbersOf (tests st e) ≡ numbers e
 unfolding numbersOf
 listed-are st (Wake t) = refl
 listed-are st (Suspend t) = refl
@@ -82,6 +79,17 @@ listed-are st (Elapse n) = refl
 listed-are st (Recharge s) = refl
 listed-are st (Lock t r) = refl
 listed-are st (Unlock t r) = refl
+
+pub listed-rise : (e : Event) → risingFrom 0 (numbers e) ≡ true
+unfolding risingFrom
+listed-rise (Wake t) = refl
+listed-rise (Suspend t) = refl
+listed-rise (Dispatch s) = refl
+listed-rise (Preempt s) = refl
+listed-rise (Elapse n) = refl
+listed-rise (Recharge s) = refl
+listed-rise (Lock t r) = refl
+listed-rise (Unlock t r) = refl
 
 pub refused-listed : (st : State) (e : Event) (n : ℕ) → stepped st e .answer ≡ Refused n → Among n (numbers e)
 refused-listed st e n h =

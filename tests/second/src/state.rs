@@ -1,5 +1,5 @@
-//! The state of one machine (rules 1.1 to 2.6), its chains (rules 3.1 to 3.4), and `fresh`
-//! (rules 5.1 to 5.5).
+//! The state of one machine (rules 1.1 to 1.7 and 2.1 to 2.6), its chains (rules 3.1 to 3.4), and
+//! `fresh` (rules 5.1 to 5.5).
 //!
 //! Assumes nothing of a given state: counts may be out of range and arrays may hold anything, and
 //! every function here still answers. Entries from the count on are not in use (rule 1.7).
