@@ -1,4 +1,4 @@
--- What the walk over lent rows decides and stores is document 01's metering: the answer, the rows that are written, and that a refusal writes none.
+-- What the walk over lent rows decides and stores is the metering of rule 9: the answer, the rows that are written, and that a refusal writes none.
 -- In a sound state the numbers in use are those below the tasks, so that the first rows, as many as tasks, are the rows of the numbers in use.
 -- Assumes nothing.
 use mathlib.Core.Path.{_≡_, refl, sym, _∙_}

@@ -61,20 +61,20 @@ abbrev pub Meets : Metering → Type 0
 Meets f = (st : State) (rows : List Row) → (f st rows .0 ≡ metered st rows .0) × (f st rows .1 ≡ metered st rows .1)
 
 module _ (f : Metering) (meets : Meets f) (st : State) (rows : List Row) where
-  -- "none written"
+  -- a refusal writes none
   pub refused-writes-nothing : said (f st rows .0) .0 ≡ refused → f st rows .1 ≡ rows
   unfolding metered
   refused-writes-nothing e =
       meets st rows .1 ∙ kept-by st rows (meterRefusal st (length rows)) (ap (λ a. said a .0) (sym (meets st rows .0)) ∙ e)
 
-  -- "row s receives server s's state, budget and accounts"
+  -- a row of a server in use is that server's
   pub row-received : (s : ℕ) → said (f st rows .0) .0 ≡ ok → here st s ≡ true → getD (f st rows .1) s noRow ≡ rowOf st s
   unfolding metered
   row-received s a e =
       ap (λ l. getD l s noRow) (meets st rows .1)
       ∙ receives-by st rows s (meterRefusal st (length rows)) (accepted-enough st (length rows)) (ap (λ b. said b .0) (sym (meets st rows .0)) ∙ a) e
 
-  -- "other rows stay", and there are as many as before
+  -- the others stay, and there are as many as before
   pub others-stay : (s : ℕ) → here st s ≡ false → getD (f st rows .1) s noRow ≡ getD rows s noRow
   unfolding metered
   others-stay s e = ap (λ l. getD l s noRow) (meets st rows .1) ∙ stays-by st rows s (meterRefusal st (length rows)) e

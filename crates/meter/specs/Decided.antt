@@ -30,6 +30,6 @@ written (Passed t) = 0
 written (Freed r) = 0
 written (Refused n) = 0
 
--- in document 01's word and number, "`ok` and how many rows; refusals 1, 22": in a sound state the rows are as many as tasks
+-- rule 9.2 as a word and a number: in a sound state the rows are as many as tasks
 unfoldable pub meterSaid : State → ℕ → Word × ℕ
 meterSaid st lent = if sound st then (if ltb lent (st .tasks) then (refused, 22) else (ok, st .tasks)) else (refused, 1)

@@ -4,7 +4,7 @@ ghost use Rattle.meter.specs.Decided.{decidedOn, written};
 use model::Answer;
 use model::State;
 
-// "`ok` and how many rows", which are as many as tasks; "refusals 1, 22".
+// Rule 9.2. A state that is not sound is told before rows that are too few.
 pub fn decided(st: State, lent: usize) -> Answer
     ensures { λ r. ⌜ r ≡ decidedOn st lent ⌝ }
 {

@@ -1,4 +1,4 @@
-// One server's meter row, by value: document 01, "row s receives server s's state, budget and accounts". Assumes nothing.
+// One server's meter row, by value (rule 9.1). Assumes nothing.
 ghost use mathlib.Core.Path.{_≡_};
 ghost use Rattle.model.specs.Meter.{rowOf};
 use model::Phase;

@@ -1,4 +1,4 @@
-// Meter rows into lent memory. Assumes nothing.
+// Meter rows into a lent slice of rows (rule 9). Assumes nothing.
 ghost use mathlib.Core.Path.{_≡_};
 ghost use lib.ListN.{length};
 ghost use Rattle.model.specs.Said.{said};

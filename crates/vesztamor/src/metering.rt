@@ -1,4 +1,4 @@
-// The exported meter rows. It takes any bytes. Assumes nothing.
+// The exported meter rows (rule 9). `vesztamor_meter` takes any bytes; the functions that write are given room for what they write.
 ghost use mathlib.Core.Path.{_≡_};
 ghost use Prim.Native.Nat.{_+_, _*_, _≤_};
 ghost use lib.ListN.{length};
