@@ -15,22 +15,22 @@ use Rattle.trace.specs.Order.{fileLimit}
 use Rattle.listing.specs.declared.Replayed.{Replayed}
 use Rattle.listing.specs.declared.Replayed.the-variants.{Written, TooShort}
 use Rattle.listing.specs.Listing.{beginning, stopLine, listing}
-use Rattle.listing.specs.Replay.{room, fileBytes, textBytes, replayed, bufferAfter, saidReplayed}
+use Rattle.listing.specs.Replay.{roomEach, roomMore, room, fileBytes, textBytes, shortFile, shortTextBytes, replayed, bufferAfter, saidReplayed}
 use Rattle.listing.specs.Computed.{textFrom}
 use Rattle.listing.proofs.Lengths.{listing-fits}
 
 -- the test of the buffer's length, without a product that could be too large
-pub room-none : (n lent : ℕ) → lent < 4000 → false ≡ leb (room n) lent
+pub room-none : (n lent : ℕ) → lent < roomMore → false ≡ leb (room n) lent
 unfolding room
 room-none n lent l = sym (lt-leb (room n) lent (omega arith))
 
-pub room-test : (n lent : ℕ) → 4000 ≤ lent → leb n ((lent - 4000) / 13) ≡ leb (room n) lent
+pub room-test : (n lent : ℕ) → roomMore ≤ lent → leb n ((lent - roomMore) / roomEach) ≡ leb (room n) lent
 unfolding room
 room-test n lent l =
     split
-    (leb n ((lent - 4000) / 13))
-    (λ y. y ∙ sym (le-leb (room n) lent (let h : n ≤ (lent - 4000) / 13 = leb-true _ _ y in omega arith)))
-    (λ x. x ∙ sym (lt-leb (room n) lent (let h : (lent - 4000) / 13 < n = leb-false _ _ x in omega arith)))
+    (leb n ((lent - roomMore) / roomEach))
+    (λ y. y ∙ sym (le-leb (room n) lent (let h : n ≤ (lent - roomMore) / roomEach = leb-true _ _ y in omega arith)))
+    (λ x. x ∙ sym (lt-leb (room n) lent (let h : (lent - roomMore) / roomEach < n = leb-false _ _ x in omega arith)))
 
 pub listing-long : (file : List ℕ) → fileLimit < length file → stopLine 0 33 ≡ listing file
 unfolding listing
@@ -84,7 +84,11 @@ module _ (file lent : List ℕ) where
   unfolding bufferAfter
   buffer-is l = rw (le-leb _ _ l) (stored-first lent (listing file) (omega (arith, listing-fits file)))
 
--- the buffer of a program is long enough for every file that fits its other buffer
+-- the buffer of a program is long enough for every file that fits its other buffer, and the short one for a short file
 pub buffers-enough : (n : ℕ) → n ≤ fileBytes → room n ≤ textBytes
 unfolding room
 buffers-enough n l = omega arith
+
+pub short-enough : (n : ℕ) → n ≤ shortFile → room n ≤ shortTextBytes
+unfolding room
+short-enough n l = omega arith

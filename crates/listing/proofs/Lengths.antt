@@ -14,7 +14,7 @@ use Rattle.model.specs.declared.Phase.the-variants.{Idle, Active, Running, Rech
 use Rattle.model.specs.declared.State.{State}
 use Rattle.model.specs.declared.Answer.{Answer}
 use Rattle.model.specs.Said.{Word, ok, executes, spins, granted, waits, passed, freed, refused, said}
-use Rattle.model.specs.State.{here, serverAt, taskAt}
+use Rattle.model.specs.State.{places, here, serverAt, taskAt}
 use Rattle.model.specs.Step.{stepped}
 use Rattle.trace.specs.declared.Record.{Record}
 use Rattle.trace.specs.declared.Record.the-variants.{Counts, Reservation, Happening}
@@ -24,9 +24,9 @@ use Rattle.trace.specs.Reading.{readAt, itemsAfter, itemsFrom, itemsAt, items}
 use Rattle.trace.specs.Order.{Stage, opening, entering, complete, orderRefusal, advanced, fileLimit}
 use Rattle.trace.proofs.Items.{read-moves}
 use Rattle.bytes.specs.Text.{bytes, digits, decimal}
-use Rattle.listing.specs.Text.{field, newline, spelled, phaseWord}
+use Rattle.listing.specs.Text.{field, newline, spelled, phaseWord, fieldMost, phaseMost, shortLineMost, eventLineMost, serverLineMost, endLinesMost}
 use Rattle.listing.specs.Listing.{Progress, beginning, started, continued, eventLine, stopLine, serverText, serverLine, taskText, taskLine, endLines, endText, recordText, readText, itemsText, listing}
-use Rattle.listing.specs.Replay.{room}
+use Rattle.listing.specs.Replay.{roomEach, roomMore, room}
 
 either-most : (b : Bool) (xs ys : List ℕ) (m : ℕ) → length xs ≤ m → length ys ≤ m → length (if b then xs else ys) ≤ m
 either-most true xs ys m h k = h
@@ -38,7 +38,7 @@ digits-most zero n = omega arith
 digits-most (suc left) n =
     simp length-append (omega (arith, either-most (ltb n 10) [] (digits left (n / 10)) left (omega arith) (digits-most left (n / 10))))
 
-field-most : (n : ℕ) → length (field n) ≤ 21
+field-most : (n : ℕ) → length (field n) ≤ fieldMost
 unfolding field bytes decimal
 field-most n = simp length-append (omega (arith, digits-most 20 n))
 
@@ -53,26 +53,26 @@ spelled-most passed = omega arith
 spelled-most freed = omega arith
 spelled-most refused = omega arith
 
-phase-most : (p : Phase) → length (phaseWord p) ≤ 10
+phase-most : (p : Phase) → length (phaseWord p) ≤ phaseMost
 unfolding phaseWord bytes
 phase-most Idle = omega arith
 phase-most Active = omega arith
 phase-most Running = omega arith
 phase-most Recharging = omega arith
 
-event-most : (n : ℕ) (a : Answer) → length (eventLine n a) ≤ 51
+event-most : (n : ℕ) (a : Answer) → length (eventLine n a) ≤ eventLineMost
 unfolding eventLine bytes newline decimal
 event-most n a =
     simp length-append (omega (arith, digits-most 20 n, spelled-most (said a .0), field-most (said a .1)))
 
-stop-most : (at n : ℕ) → length (stopLine at n) ≤ 47
+stop-most : (at n : ℕ) → length (stopLine at n) ≤ shortLineMost
 unfolding stopLine bytes newline
 stop-most at n = simp length-append (omega (arith, field-most at, field-most n))
 
-server-most : (st : State) (s : ℕ) → length (serverLine st s) ≤ 144
+server-most : (st : State) (s : ℕ) → length (serverLine st s) ≤ serverLineMost
 unfolding serverLine bytes newline
 server-most st s =
-    either-most (here st s) (serverText s (serverAt st s)) [] 144
+    either-most (here st s) (serverText s (serverAt st s)) [] serverLineMost
     (simp length-append
     (omega (
       arith,
@@ -86,27 +86,27 @@ server-most st s =
     )))
     (omega arith)
 
-task-most : (st : State) (t : ℕ) → length (taskLine st t) ≤ 47
+task-most : (st : State) (t : ℕ) → length (taskLine st t) ≤ shortLineMost
 unfolding taskLine bytes newline
 task-most st t =
-    either-most (here st t) (taskText t (taskAt st t .executed)) [] 47
+    either-most (here st t) (taskText t (taskAt st t .executed)) [] shortLineMost
     (simp length-append (omega (arith, field-most t, field-most (taskAt st t .executed))))
     (omega arith)
 
-end-most : (st : State) → length (endLines st) ≤ 3081
+end-most : (st : State) → length (endLines st) ≤ endLinesMost
 unfolding endLines bytes newline
 end-most st =
     simp length-append
-    (omega (arith, field-most (st .clock), join-most (serverLine st) 144 (server-most st) 16, join-most (taskLine st) 47 (task-most st) 16))
+    (omega (arith, field-most (st .clock), join-most (serverLine st) serverLineMost (server-most st) places, join-most (taskLine st) shortLineMost (task-most st) places))
 
-closing-most : (stage : Stage) (st : State) (at : ℕ) → length (endText stage st at) ≤ 4000
+closing-most : (stage : Stage) (st : State) (at : ℕ) → length (endText stage st at) ≤ roomMore
 closing-most opening st at = omega (arith, stop-most at 32)
 closing-most (entering tb k) st at = omega (arith, stop-most at 32)
 closing-most (complete tb) st at = omega (arith, end-most st)
 
 -- what is left of a file of n bytes from a place on
 abbrev left-over : ℕ → ℕ → ℕ
-left-over n at = 13 * (n - at) + 4000
+left-over n at = roomEach * (n - at) + roomMore
 
 record-most
     : (rest : Progress → List ℕ) (p : Progress) (at next n : ℕ) (o : Option ℕ) (r : Record)

@@ -22,8 +22,9 @@ use Rattle.trace.specs.declared.Read.the-variants.{Got, End, Fault}
 use Rattle.trace.specs.Reading.{readAt, itemsAt}
 use Rattle.trace.specs.Order.{complete, countedTable}
 use Rattle.trace.proofs.Items.{read-moves}
+use Rattle.listing.specs.Text.{eventLineMost}
 use Rattle.listing.specs.Listing.{Progress, eventLine, readText, itemsText}
-use Rattle.listing.specs.Replay.{room}
+use Rattle.listing.specs.Replay.{roomEach, roomMore, room}
 use Rattle.listing.specs.Computed.{textFrom, running}
 use Rattle.bytes.specs.Writing.{Wrote}
 use Rattle.bytes.proofs.Writing.{wrote-none, wrote-then, wrote-most}
@@ -56,7 +57,7 @@ pub record So-far (file lent : List ℕ) (from : ℕ) (fresh : State) (out : Lis
   pub text : List ℕ
   pub inside : at ≤ length file
   pub numbered : events ≤ at
-  pub wrote : Wrote (13 * at) lent 0 text out written
+  pub wrote : Wrote (roomEach * at) lent 0 text out written
   pub rest : text ++ textFrom file (running st events) at ≡ textFrom file (running fresh 0) from
   pub shaped : Shaped st
   pub is-sound : sound st ≡ true
@@ -82,7 +83,7 @@ module _ {file lent : List ℕ} {from : ℕ} {fresh : State} where
   module _ {out : List ℕ} {at : ℕ} {st : State} {events written : ℕ} (h : So-far file lent from fresh out at st events written) where
     pub so-far-turn
         : {to : List ℕ} {next : ℕ} (e : Event) (q : Place) (o : Outcome)
-        → readAt file at ≡ Got (Happening e) q → o ≡ attempted st e → Wrote 51 out written (eventLine (events + 1) (o .answer)) to next
+        → readAt file at ≡ Got (Happening e) q → o ≡ attempted st e → Wrote eventLineMost out written (eventLine (events + 1) (o .answer)) to next
         → So-far file lent from fresh to (q .at) (o .state) (events + 1) next
     so-far-turn e q o g a w =
         let m = read-moves file at (Happening e) q g in
@@ -105,13 +106,13 @@ module _ {file lent : List ℕ} {from : ℕ} {fresh : State} where
         }
 
     -- there is room for a line, and for the last lines
-    pub so-far-room : (n : ℕ) → n ≤ 4000 → room (length file) ≤ length lent → written + n ≤ length out
+    pub so-far-room : (n : ℕ) → n ≤ roomMore → room (length file) ≤ length lent → written + n ≤ length out
     unfolding room
     so-far-room n l r = omega (arith, h .inside, h .wrote .within, h .wrote .kept)
 
     -- the last text of all
     pub so-far-end
-        : {to : List ℕ} {end m : ℕ} (last : List ℕ) → m ≤ 4000 → textFrom file (running st events) at ≡ last → Wrote m out written last to end
+        : {to : List ℕ} {end m : ℕ} (last : List ℕ) → m ≤ roomMore → textFrom file (running st events) at ≡ last → Wrote m out written last to end
         → Wrote (room (length file)) lent 0 (textFrom file (running fresh 0) from) to end
     unfolding room
     so-far-end last l e w =

@@ -11,17 +11,29 @@ use Rattle.listing.specs.declared.Replayed.{Replayed}
 use Rattle.listing.specs.declared.Replayed.the-variants.{Written, TooShort}
 use Rattle.listing.specs.Listing.{listing}
 
--- How long a buffer must be for a file of so many bytes: an event's line has at most 51 bytes, its record 4 or more, and the lines after `end` have
--- at most 3,081 (law `listing-fits`).
-unfoldable pub room : ℕ → ℕ
-room n = 13 * n + 4000
+-- How long a buffer must be for a file of so many bytes (law `listing-fits`): an event's line has at most 51 bytes and its record 4 or more, which is
+-- no more than 13 for each, and the lines after the events have at most 3,081.
+abbrev pub roomEach : ℕ
+roomEach = 13
 
--- the buffers of a program that replays: for a file up to one byte past the limit, and for the listing of every such file
+abbrev pub roomMore : ℕ
+roomMore = 4000
+
+unfoldable pub room : ℕ → ℕ
+room n = roomEach * n + roomMore
+
+-- the buffers of a program that replays: for a file up to one byte past the limit, for the listing of every such file, and for that of a short one
 abbrev pub fileBytes : ℕ
 fileBytes = fileLimit + 1
 
 abbrev pub textBytes : ℕ
 textBytes = room fileBytes
+
+abbrev pub shortFile : ℕ
+shortFile = 4000
+
+abbrev pub shortTextBytes : ℕ
+shortTextBytes = room shortFile
 
 -- the answer, from the file and the length of the buffer
 unfoldable pub replayed : List ℕ → ℕ → Replayed

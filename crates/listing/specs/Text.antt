@@ -1,9 +1,10 @@
 -- Words, fields and lines as bytes (rule 14.5). Assumes nothing.
 use mathlib.Core.List.{List, _++_}
-use Prim.Native.Nat.{ℕ}
+use Prim.Native.Nat.{ℕ, _+_, _*_}
 use Rattle.bytes.specs.Text.{bytes, decimal}
 use Rattle.model.specs.declared.Phase.{Phase}
 use Rattle.model.specs.declared.Phase.the-variants.{Idle, Active, Running, Recharging}
+use Rattle.model.specs.State.{places}
 use Rattle.model.specs.Said.{Word, ok, executes, spins, granted, waits, passed, freed, refused}
 
 -- a field after a space
@@ -28,3 +29,38 @@ phaseWord Idle = bytes "idle"
 phaseWord Active = bytes "active"
 phaseWord Running = bytes "running"
 phaseWord Recharging = bytes "recharging"
+
+-- the longest that each can be, in bytes (laws of `Lengths`): a number has at most twenty digits
+abbrev pub numberMost : ℕ
+numberMost = 20
+
+abbrev pub fieldMost : ℕ
+fieldMost = numberMost + 1
+
+abbrev pub pairMost : ℕ
+pairMost = fieldMost + fieldMost
+
+abbrev pub phaseMost : ℕ
+phaseMost = 10
+
+-- an answer's word has at most eight letters
+abbrev pub answerMost : ℕ
+answerMost = 8 + fieldMost
+
+-- a line of `stop` or `task` and two numbers
+abbrev pub shortLineMost : ℕ
+shortLineMost = 4 + pairMost + 1
+
+abbrev pub eventLineMost : ℕ
+eventLineMost = numberMost + 1 + answerMost + 1
+
+-- a server's line up to its phase, and whole
+abbrev pub serverPhaseMost : ℕ
+serverPhaseMost = 6 + fieldMost + 1 + phaseMost
+
+abbrev pub serverLineMost : ℕ
+serverLineMost = serverPhaseMost + pairMost + pairMost + fieldMost + 1
+
+-- the line of `end`, and one for each server and task
+abbrev pub endLinesMost : ℕ
+endLinesMost = 3 + fieldMost + 1 + places * serverLineMost + places * shortLineMost

@@ -1,12 +1,13 @@
 // What stands after the events where a trace is good to its end (rule 14.2): `end` and the clock, then a line for each server and for each task. Each
 // function is given a buffer that has room for the longest text that it can write.
 ghost use mathlib.Core.List.{_++_};
-ghost use Prim.Native.Nat.{_+_, _≤_};
+ghost use Prim.Native.Nat.{_+_, _*_, _≤_};
 ghost use lib.ListN.{length};
 ghost use Rattle.laws.specs.Loops.{joinTo};
 ghost use Rattle.bytes.specs.Text.{bytes};
 ghost use Rattle.bytes.specs.Writing.{Wrote};
-ghost use Rattle.listing.specs.Text.{field, phaseWord};
+ghost use Rattle.model.specs.State.{places};
+ghost use Rattle.listing.specs.Text.{field, phaseWord, phaseMost, shortLineMost, serverPhaseMost, serverLineMost, endLinesMost};
 ghost use Rattle.listing.specs.Listing.{serverText, serverLine, taskText, taskLine, endLines};
 use crate::fields::put_field;
 use crate::fields::put_line;
@@ -18,8 +19,8 @@ use model::Server;
 use model::State;
 
 fn put_phase(out: &mut [u8], at: usize, phase: Phase) -> usize
-    requires { ⌜ at + 10 ≤ length (now out) ⌝ }
-    ensures { λ r. ⌜ Wrote 10 (now (out .entry)) at (phaseWord phase) (now (out .exit)) r ⌝ }
+    requires { ⌜ at + phaseMost ≤ length (now out) ⌝ }
+    ensures { λ r. ⌜ Wrote phaseMost (now (out .entry)) at (phaseWord phase) (now (out .exit)) r ⌝ }
 {
     match phase {
         Phase::Idle => put_text(out, at, b"idle"),
@@ -31,8 +32,8 @@ fn put_phase(out: &mut [u8], at: usize, phase: Phase) -> usize
 
 // The first half of a server's line, up to its phase.
 fn put_state(out: &mut [u8], at: usize, s: usize, phase: Phase) -> usize
-    requires { ⌜ at + 38 ≤ length (now out) ⌝ }
-    ensures { λ r. ⌜ Wrote 38 (now (out .entry)) at (bytes "server" ++ field s ++ bytes " " ++ phaseWord phase) (now (out .exit)) r ⌝ }
+    requires { ⌜ at + serverPhaseMost ≤ length (now out) ⌝ }
+    ensures { λ r. ⌜ Wrote serverPhaseMost (now (out .entry)) at (bytes "server" ++ field s ++ bytes " " ++ phaseWord phase) (now (out .exit)) r ⌝ }
 {
     let mut next = put_named(out, at, b"server", s);
     next = put_text(out, next, b" ");
@@ -41,8 +42,8 @@ fn put_state(out: &mut [u8], at: usize, s: usize, phase: Phase) -> usize
 
 // A server's whole line.
 fn put_server(out: &mut [u8], at: usize, s: usize, server: Server) -> usize
-    requires { ⌜ at + 144 ≤ length (now out) ⌝ }
-    ensures { λ r. ⌜ Wrote 144 (now (out .entry)) at (serverText s server) (now (out .exit)) r ⌝ }
+    requires { ⌜ at + serverLineMost ≤ length (now out) ⌝ }
+    ensures { λ r. ⌜ Wrote serverLineMost (now (out .entry)) at (serverText s server) (now (out .exit)) r ⌝ }
 {
     let phase = server.phase;
     let mut next = put_state(out, at, s, phase);
@@ -54,8 +55,8 @@ fn put_server(out: &mut [u8], at: usize, s: usize, server: Server) -> usize
 
 // The lines of the servers in use.
 fn put_servers(out: &mut [u8], at: usize, st: State) -> usize
-    requires { ⌜ at + 2304 ≤ length (now out) ⌝ }
-    ensures { λ r. ⌜ Wrote 2304 (now (out .entry)) at (joinTo 16 (serverLine st)) (now (out .exit)) r ⌝ }
+    requires { ⌜ at + places * serverLineMost ≤ length (now out) ⌝ }
+    ensures { λ r. ⌜ Wrote (places * serverLineMost) (now (out .entry)) at (joinTo places (serverLine st)) (now (out .exit)) r ⌝ }
 {
     let tasks = st.tasks;
     let mut next = at;
@@ -70,15 +71,15 @@ fn put_servers(out: &mut [u8], at: usize, st: State) -> usize
 
 // A task's line.
 fn put_task(out: &mut [u8], at: usize, t: usize, executed: u32) -> usize
-    requires { ⌜ at + 47 ≤ length (now out) ⌝ }
-    ensures { λ r. ⌜ Wrote 47 (now (out .entry)) at (taskText t executed) (now (out .exit)) r ⌝ }
+    requires { ⌜ at + shortLineMost ≤ length (now out) ⌝ }
+    ensures { λ r. ⌜ Wrote shortLineMost (now (out .entry)) at (taskText t executed) (now (out .exit)) r ⌝ }
 {
     put_line(out, at, b"task", t, executed as usize)
 }
 
 fn put_tasks(out: &mut [u8], at: usize, st: State) -> usize
-    requires { ⌜ at + 752 ≤ length (now out) ⌝ }
-    ensures { λ r. ⌜ Wrote 752 (now (out .entry)) at (joinTo 16 (taskLine st)) (now (out .exit)) r ⌝ }
+    requires { ⌜ at + places * shortLineMost ≤ length (now out) ⌝ }
+    ensures { λ r. ⌜ Wrote (places * shortLineMost) (now (out .entry)) at (joinTo places (taskLine st)) (now (out .exit)) r ⌝ }
 {
     let tasks = st.tasks;
     let mut next = at;
@@ -93,8 +94,8 @@ fn put_tasks(out: &mut [u8], at: usize, st: State) -> usize
 
 // The whole close of a listing.
 pub fn put_end(out: &mut [u8], at: usize, st: State) -> usize
-    requires { ⌜ at + 3081 ≤ length (now out) ⌝ }
-    ensures { λ r. ⌜ Wrote 3081 (now (out .entry)) at (endLines st) (now (out .exit)) r ⌝ }
+    requires { ⌜ at + endLinesMost ≤ length (now out) ⌝ }
+    ensures { λ r. ⌜ Wrote endLinesMost (now (out .entry)) at (endLines st) (now (out .exit)) r ⌝ }
 {
     let mut next = put_named(out, at, b"end", st.clock as usize);
     next = put_text(out, next, b"\n");

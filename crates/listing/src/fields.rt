@@ -4,14 +4,14 @@ ghost use Prim.Native.Nat.{_+_, _≤_};
 ghost use mathlib.Core.List.{_++_};
 ghost use lib.ListN.{length};
 ghost use Rattle.bytes.specs.Writing.{Wrote};
-ghost use Rattle.listing.specs.Text.{field, newline};
+ghost use Rattle.listing.specs.Text.{field, newline, fieldMost, pairMost};
 use bytes::text::put_number;
 use bytes::text::put_text;
 
 // A number after a space.
 pub fn put_field(out: &mut [u8], at: usize, n: usize) -> usize
-    requires { ⌜ at + 21 ≤ length (now out) ⌝ }
-    ensures { λ r. ⌜ Wrote 21 (now (out .entry)) at (field n) (now (out .exit)) r ⌝ }
+    requires { ⌜ at + fieldMost ≤ length (now out) ⌝ }
+    ensures { λ r. ⌜ Wrote fieldMost (now (out .entry)) at (field n) (now (out .exit)) r ⌝ }
 {
     let next = put_text(out, at, b" ");
     put_number(out, next, n)
@@ -19,8 +19,8 @@ pub fn put_field(out: &mut [u8], at: usize, n: usize) -> usize
 
 // Two numbers, each after a space.
 pub fn put_pair(out: &mut [u8], at: usize, m: usize, n: usize) -> usize
-    requires { ⌜ at + 42 ≤ length (now out) ⌝ }
-    ensures { λ r. ⌜ Wrote 42 (now (out .entry)) at (field m ++ field n) (now (out .exit)) r ⌝ }
+    requires { ⌜ at + pairMost ≤ length (now out) ⌝ }
+    ensures { λ r. ⌜ Wrote pairMost (now (out .entry)) at (field m ++ field n) (now (out .exit)) r ⌝ }
 {
     let next = put_field(out, at, m);
     put_field(out, next, n)
@@ -28,8 +28,8 @@ pub fn put_pair(out: &mut [u8], at: usize, m: usize, n: usize) -> usize
 
 // A word and a number after it.
 pub fn put_named(out: &mut [u8], at: usize, word: &[u8], n: usize) -> usize
-    requires { ⌜ at + (length (now word) + 21) ≤ length (now out) ⌝ }
-    ensures { λ r. ⌜ Wrote (length (now (word .entry)) + 21) (now (out .entry)) at (now (word .entry) ++ field n) (now (out .exit)) r ⌝ }
+    requires { ⌜ at + (length (now word) + fieldMost) ≤ length (now out) ⌝ }
+    ensures { λ r. ⌜ Wrote (length (now (word .entry)) + fieldMost) (now (out .entry)) at (now (word .entry) ++ field n) (now (out .exit)) r ⌝ }
 {
     let next = put_text(out, at, word);
     put_field(out, next, n)
@@ -37,8 +37,8 @@ pub fn put_named(out: &mut [u8], at: usize, word: &[u8], n: usize) -> usize
 
 // A line of a word and two numbers.
 pub fn put_line(out: &mut [u8], at: usize, word: &[u8], m: usize, n: usize) -> usize
-    requires { ⌜ at + (length (now word) + 43) ≤ length (now out) ⌝ }
-    ensures { λ r. ⌜ Wrote (length (now (word .entry)) + 43) (now (out .entry)) at (now (word .entry) ++ field m ++ field n ++ newline) (now (out .exit)) r ⌝ }
+    requires { ⌜ at + (length (now word) + (pairMost + 1)) ≤ length (now out) ⌝ }
+    ensures { λ r. ⌜ Wrote (length (now (word .entry)) + (pairMost + 1)) (now (out .entry)) at (now (word .entry) ++ field m ++ field n ++ newline) (now (out .exit)) r ⌝ }
 {
     let mut next = put_named(out, at, word, m);
     next = put_field(out, next, n);

@@ -4,7 +4,7 @@ ghost use Prim.Native.Nat.{_+_, _≤_};
 ghost use lib.ListN.{length};
 ghost use Rattle.bytes.specs.Writing.{Wrote};
 ghost use Rattle.model.specs.Said.{said};
-ghost use Rattle.listing.specs.Text.{spelled, field};
+ghost use Rattle.listing.specs.Text.{spelled, field, answerMost, shortLineMost, eventLineMost};
 ghost use Rattle.listing.specs.Listing.{eventLine, stopLine};
 use crate::fields::put_line;
 use crate::fields::put_named;
@@ -14,16 +14,16 @@ use model::Answer;
 
 // Rule 14.3.
 pub fn put_stop(out: &mut [u8], at: usize, offset: usize, number: u16) -> usize
-    requires { ⌜ at + 47 ≤ length (now out) ⌝ }
-    ensures { λ r. ⌜ Wrote 47 (now (out .entry)) at (stopLine offset number) (now (out .exit)) r ⌝ }
+    requires { ⌜ at + shortLineMost ≤ length (now out) ⌝ }
+    ensures { λ r. ⌜ Wrote shortLineMost (now (out .entry)) at (stopLine offset number) (now (out .exit)) r ⌝ }
 {
     put_line(out, at, b"stop", offset, number as usize)
 }
 
 // An answer's word and number.
 fn put_answer(out: &mut [u8], at: usize, answer: Answer) -> usize
-    requires { ⌜ at + 29 ≤ length (now out) ⌝ }
-    ensures { λ r. ⌜ Wrote 29 (now (out .entry)) at (spelled (said answer .0) ++ field (said answer .1)) (now (out .exit)) r ⌝ }
+    requires { ⌜ at + answerMost ≤ length (now out) ⌝ }
+    ensures { λ r. ⌜ Wrote answerMost (now (out .entry)) at (spelled (said answer .0) ++ field (said answer .1)) (now (out .exit)) r ⌝ }
 {
     match answer {
         Answer::Ok(n) => put_named(out, at, b"ok", n as usize),
@@ -39,8 +39,8 @@ fn put_answer(out: &mut [u8], at: usize, answer: Answer) -> usize
 
 // Rule 14.1.
 pub fn put_event(out: &mut [u8], at: usize, number: usize, answer: Answer) -> usize
-    requires { ⌜ at + 51 ≤ length (now out) ⌝ }
-    ensures { λ r. ⌜ Wrote 51 (now (out .entry)) at (eventLine number answer) (now (out .exit)) r ⌝ }
+    requires { ⌜ at + eventLineMost ≤ length (now out) ⌝ }
+    ensures { λ r. ⌜ Wrote eventLineMost (now (out .entry)) at (eventLine number answer) (now (out .exit)) r ⌝ }
 {
     let mut next = put_number(out, at, number);
     next = put_text(out, next, b" ");

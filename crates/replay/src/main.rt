@@ -7,7 +7,9 @@ ghost use Rattle.listing.specs.Listing.{listing};
 ghost use Rattle.listing.specs.Replay.{room};
 ghost use Rattle.replay.specs.Input.{Within};
 use listing::Replayed;
+use listing::buffers::SHORT_FILE;
 use listing::buffers::file_buffer;
+use listing::buffers::short_text_buffer;
 use listing::buffers::text_buffer;
 
 // How many bytes were read, or that a read failed.
@@ -46,15 +48,27 @@ fn put_whole(file: &[u8], out: &mut [u8]) -> usize
     n
 }
 
+// Writes the listing to standard output, by way of the buffer.
+fn print(file: &[u8], out: &mut [u8])
+    requires { ⌜ room (length (now file)) ≤ length (now out) ⌝ }
+{
+    let written = put_whole(file, out);
+    if !io::write_all(libc::STDOUT_FILENO, &out[..written]) {
+        os::fail(b"replay: the listing is not whole, look at where standard output goes");
+    }
+}
+
 fn main() {
     let mut file = file_buffer();
     let Input::Whole(n) = read_all(&mut file) else {
-        os::fail(b"replay");
+        os::fail(b"replay: no listing, give a trace that can be read on standard input");
         return;
     };
-    let mut out = text_buffer();
-    let written = put_whole(&file[..n], &mut out);
-    if !io::write_all(libc::STDOUT_FILENO, &out[..written]) {
-        os::fail(b"replay");
+    if n <= SHORT_FILE {
+        let mut out = short_text_buffer();
+        print(&file[..n], &mut out);
+        return;
     }
+    let mut out = text_buffer();
+    print(&file[..n], &mut out);
 }

@@ -5,7 +5,8 @@ use Prim.Native.Nat.{_*_, _-_, _≤_}
 use borrow.Author.Needs.{needs}
 use native.Mathlib.Omega.{arith}
 use Rattle.laws.specs.Loops.{joinTo}
-use Rattle.model.specs.State.{here}
+use Rattle.model.specs.State.{places, here}
+use Rattle.listing.specs.Text.{serverLineMost}
 use Rattle.listing.specs.Listing.{serverLine}
 use Rattle.bytes.specs.Writing.{Wrote}
 use Rattle.listing.proofs.InUse.{lines-none, lines-more, lines-skip, lines-done, server-line, no-server}
@@ -17,17 +18,17 @@ unfolding here
 put-servers-spec =
     tie.close
     (tie.spec
-    (λ out₀ at st tasks next₀ s₀ out next s. (s ≤ 16) × Wrote (144 * s) out₀ at (joinTo s (serverLine st)) out next)
-    (λ out₀ at st tasks next₀ s₀ out next s. 16 - s)
-    (λ c. (omega arith, lines-none 144 _ _ _))
+    (λ out₀ at st tasks next₀ s₀ out next s. (s ≤ places) × Wrote (serverLineMost * s) out₀ at (joinTo s (serverLine st)) out next)
+    (λ out₀ at st tasks next₀ s₀ out next s. places - s)
+    (λ c. (omega arith, lines-none serverLineMost _ _ _))
     (λ c κs. search needs) (λ c. omega arith) (λ c. omega arith) (λ c κs. omega arith) (λ c. omega arith)
     (λ c. omega arith)
     (λ c.
     let loop = c .before .before .before .loop in
     let test = sym (c .before .in-use .ensures) in
     ⊎-elim
-    (λ w. (omega arith, rw (w .6, w .7) (lines-more 144 _ _ _ (loop .inv .1) (server-line _ _ (test ∙ w .0 .taken)) (w .3 .ensures))))
-    (λ w. (omega arith, rw (w .1, w .2) (lines-skip 144 _ _ (loop .inv .1) (no-server _ _ (test ∙ w .0 .left)))))
+    (λ w. (omega arith, rw (w .6, w .7) (lines-more serverLineMost _ _ _ (loop .inv .1) (server-line _ _ (test ∙ w .0 .taken)) (w .3 .ensures))))
+    (λ w. (omega arith, rw (w .1, w .2) (lines-skip serverLineMost _ _ (loop .inv .1) (no-server _ _ (test ∙ w .0 .left)))))
     (c .if1 .came))
     (λ c. c .before .loop .inv .1 .kept)
-    (λ c. lines-done 144 _ _ _ (c .before .loop .inv .0) (c .loop-test .left) (c .before .loop .inv .1)))
+    (λ c. lines-done serverLineMost _ _ _ (c .before .loop .inv .0) (c .loop-test .left) (c .before .loop .inv .1)))

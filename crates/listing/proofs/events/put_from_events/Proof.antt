@@ -7,6 +7,7 @@ use lib.ListN.{length}
 use Rattle.trace.specs.declared.Read.the-variants.{Got}
 use Rattle.trace.specs.Order.{countedTable}
 use Rattle.trace.proofs.Items.{read-moves}
+use Rattle.listing.specs.Text.{shortLineMost, eventLineMost, endLinesMost}
 use Rattle.listing.specs.Replay.{room}
 use Rattle.listing.proofs.Texts.{text-end, text-fault, text-refused}
 use Rattle.listing.proofs.Otherwise.{neither, not-event}
@@ -24,21 +25,21 @@ abbrev μ-loop : tie.MeasureT-loop
 -- room for the last lines, for a stop and for an event's line
 end-room : tie.Need-put-end-requires Inv-loop μ-loop
 unfolding room
-end-room c κs = let head = c .before .before .before .before in so-far-room (head .loop .inv) 3081 (omega arith) (head .before .before .before .pre .0 .1)
+end-room c κs = let head = c .before .before .before .before in so-far-room (head .loop .inv) endLinesMost (omega arith) (head .before .before .before .pre .0 .1)
 
 fault-room : tie.Need-put-stop-requires Inv-loop μ-loop
 unfolding room
-fault-room c κs = let head = c .before .before .before .before .before .before in so-far-room (head .loop .inv) 47 (omega arith) (head .before .before .before .pre .0 .1)
+fault-room c κs = let head = c .before .before .before .before .before .before in so-far-room (head .loop .inv) shortLineMost (omega arith) (head .before .before .before .pre .0 .1)
 
 wrong-room : tie.Need-put-stop-requires-2 Inv-loop μ-loop
 unfolding room
-wrong-room c κs = let head = c .before .before .before .before .before .before in so-far-room (head .loop .inv) 47 (omega arith) (head .before .before .before .pre .0 .1)
+wrong-room c κs = let head = c .before .before .before .before .before .before in so-far-room (head .loop .inv) shortLineMost (omega arith) (head .before .before .before .pre .0 .1)
 
 event-room : tie.Need-put-event-requires Inv-loop μ-loop
 unfolding room
 event-room c κs =
     let head = c .before .before .before .before .before .before .before .before .before in
-    so-far-room (head .loop .inv) 51 (omega arith) (head .before .before .before .pre .0 .1)
+    so-far-room (head .loop .inv) eventLineMost (omega arith) (head .before .before .before .pre .0 .1)
 
 -- the file's end, a record that cannot be read, and one that is no event
 ended : tie.Need-returns Inv-loop μ-loop
