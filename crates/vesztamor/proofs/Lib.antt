@@ -1,5 +1,6 @@
 mod Held
 pub mod Keeps
 mod Lines
+pub mod PastCounts
 pub mod Unpacked
 mod Ways
