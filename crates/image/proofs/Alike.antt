@@ -113,8 +113,8 @@ module _ (a b : List ℕ) (alike : AlikeInUse a b) where
 pub decoded-alike
     : (a b : List ℕ) (st : State) → Bytes a → Bytes b → decoded a ≡ some st → decoded b ≡ some st → AlikeInUse a b
 decoded-alike a b st all-a all-b e f =
-    let x = decoded-laid a st all-a e in
-    let y = decoded-laid b st all-b f in
+    let x = decoded-laid a st e all-a in
+    let y = decoded-laid b st f all-b in
     let n = laid-tasks st a x in
     let r = laid-resources st a x in
     record {

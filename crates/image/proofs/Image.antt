@@ -1,6 +1,6 @@
 -- A state in lent bytes: what was written is read back, and writing what was read changes nothing. Both go by where the parts of the state stand in the
 -- bytes (`Laid`). Assumes nothing.
-use mathlib.Core.Path.{_≡_, refl, ap, _∙_}
+use mathlib.Core.Path.{_≡_, refl, sym, ap, _∙_}
 use mathlib.Core.Bool.{true, false}
 use mathlib.Core.List.{List, _++_}
 use mathlib.Core.Option.{some}
@@ -159,6 +159,11 @@ module _ (st : State) (bytes : List ℕ) where
       unfolding decoded
       laid-decoded = rw (laid-image, laid-state)
 
+-- as many bytes as a state takes
+pub image-long : (bytes : List ℕ) → isImage bytes ≡ true → length bytes ≡ imageSize
+unfolding isImage
+image-long bytes y = eqb-true (length bytes) imageSize (and-left _ _ y)
+
 -- the state that is read lies in the bytes
 read-laid : (bytes : List ℕ) → Bytes bytes → isImage bytes ≡ true → Laid (stateIn bytes) bytes
 unfolding isImage stateIn headerBytes two four taskEntriesFit resourceEntryFits
@@ -176,24 +181,24 @@ read-laid bytes all y =
           (λ r l. all-at _ (resourcesUsed bytes) r l (and-right (allTo (tasksUsed bytes) (taskEntriesFit bytes)) _ entries));
     }
 
-pub decoded-laid : (bytes : List ℕ) (st : State) → Bytes bytes → decoded bytes ≡ some st → Laid st bytes
-unfolding decoded
-decoded-laid bytes st all e =
-    split (isImage bytes)
-    (λ y.
-    let d : some (stateIn bytes) ≡ some st = rw y at e in
-    let s : stateIn bytes ≡ st = cc in
-    rw (← s) (read-laid bytes all y))
-    (λ n. none-some (rw n at e))
+module _ (bytes : List ℕ) (st : State) (e : decoded bytes ≡ some st) where
+  -- what is read of bytes that are an image
+  decoded-state : (isImage bytes ≡ true) × (stateIn bytes ≡ st)
+  unfolding decoded
+  decoded-state =
+      split (isImage bytes)
+      (λ y. let d : some (stateIn bytes) ≡ some st = rw y at e in (y, cc))
+      (λ n. none-some (rw n at e))
 
--- as many bytes as a state takes
-pub image-long : (bytes : List ℕ) → isImage bytes ≡ true → length bytes ≡ imageSize
-unfolding isImage
-image-long bytes y = eqb-true (length bytes) imageSize (and-left _ _ y)
+  pub decoded-laid : Bytes bytes → Laid st bytes
+  decoded-laid all = rw (← (decoded-state .1)) (read-laid bytes all (decoded-state .0))
 
-pub decoded-long : (bytes : List ℕ) (st : State) → decoded bytes ≡ some st → length bytes ≡ imageSize
-unfolding decoded
-decoded-long bytes st e = split (isImage bytes) (λ y. image-long bytes y) (λ n. none-some (rw n at e))
+  pub decoded-long : length bytes ≡ imageSize
+  decoded-long = image-long bytes (decoded-state .0)
+
+  pub decoded-counts : (st .tasks ≡ twoBytes bytes 2) × (st .resources ≡ twoBytes bytes 4)
+  unfolding stateIn
+  decoded-counts = (ap (λ x. x .tasks) (sym (decoded-state .1)), ap (λ x. x .resources) (sym (decoded-state .1)))
 
 -- what was written is read back, with blank entries past the counts
 pub decoded-encoded
@@ -203,7 +208,7 @@ decoded-encoded st bytes fit long =
 
 -- and writing what was read changes nothing
 pub encoded-decoded : (bytes : List ℕ) (st : State) → Bytes bytes → decoded bytes ≡ some st → encoded st bytes ≡ bytes
-encoded-decoded bytes st all e = laid-same st bytes (decoded-laid bytes st all e)
+encoded-decoded bytes st all e = laid-same st bytes (decoded-laid bytes st e all)
 
 -- n turns of a loop that reads entries, for the code
 pub entries-read

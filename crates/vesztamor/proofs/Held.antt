@@ -1,22 +1,18 @@
 -- What the exported functions answer, by what the lent bytes hold: a law for each way out. Assumes nothing.
 use mathlib.Core.Path.{_≡_, refl, sym, ap}
-use mathlib.Core.Bool.{true, false}
+use mathlib.Core.Bool.{Bool, false}
 use mathlib.Core.List.{List}
 use mathlib.Core.Option.{Option, none, some}
 use Prim.Native.Nat.{ℕ}
 use native.Mathlib.Omega.{arith}
-use lib.ListN.{length}
-use Rattle.laws.proofs.Cases.{split, none-some}
 use Rattle.model.specs.declared.State.{State}
 use Rattle.model.specs.Sound.{sound}
-use Rattle.model.specs.Said.{ok, refused}
+use Rattle.model.specs.Said.{refused}
 use Rattle.settle.specs.Doing.{doing, saidDoing}
 use Rattle.image.specs.declared.ImageAnswer.the-variants.{Held, Refused}
 use Rattle.image.specs.declared.Imaged.{Imaged}
-use Rattle.image.specs.Layout.{imageSize}
-use Rattle.image.specs.Decoded.{isImage, decoded, imagedBy}
-use Rattle.image.proofs.Image.{image-long}
-use Rattle.vesztamor.specs.Exported.{soundExport, doingTold, executingExport}
+use Rattle.image.specs.Decoded.{decoded, imagedBy}
+use Rattle.vesztamor.specs.Exported.{isSoundIn, doingTold, executingExport}
 
 held-by : (d : Option State) (r : Imaged) → r ≡ imagedBy d → r .answer ≡ Held → d ≡ some (r .state)
 held-by none r e h =
@@ -40,22 +36,11 @@ module _ (bytes : List ℕ) where
   pub unheld : (r : Imaged) (n : ℕ) → r ≡ imagedBy (decoded bytes) → r .answer ≡ Refused n → decoded bytes ≡ none
   unheld r n e h = unheld-by (decoded bytes) r n e h
 
-  -- such bytes are as many as a state takes
-  pub held-long : (st : State) → decoded bytes ≡ some st → length bytes ≡ imageSize
-  unfolding decoded
-  held-long st e = split (isImage bytes) (λ y. image-long bytes y) (λ n. none-some (rw n at e))
-
-  pub sound-none : decoded bytes ≡ none → (refused, 1) ≡ soundExport bytes
-  unfolding soundExport
+  pub sound-none : decoded bytes ≡ none → false ≡ isSoundIn (decoded bytes)
   sound-none e = rw e
 
-  pub sound-yes : (st : State) → decoded bytes ≡ some st → sound st ≡ true → (ok, 0) ≡ soundExport bytes
-  unfolding soundExport
-  sound-yes st e s = rw (e, s)
-
-  pub sound-no : (st : State) → decoded bytes ≡ some st → sound st ≡ false → (refused, 1) ≡ soundExport bytes
-  unfolding soundExport
-  sound-no st e s = rw (e, s)
+  pub sound-some : (st : State) (r : Bool) → decoded bytes ≡ some st → r ≡ sound st → r ≡ isSoundIn (decoded bytes)
+  sound-some st r e s = rw e s
 
   pub executing-none : (s : ℕ) → decoded bytes ≡ none → (refused, 1) ≡ executingExport bytes s
   unfolding executingExport

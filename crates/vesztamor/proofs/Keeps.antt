@@ -11,6 +11,7 @@ use Rattle.laws.specs.Tests.{if_then_else_}
 use Rattle.laws.proofs.Cases.{split}
 use Rattle.model.specs.declared.Answer.{Answer}
 use Rattle.model.specs.declared.Answer.the-variants.{Ok, Executes, Spins, Granted, Waits, Passed, Freed, Refused}
+use Rattle.model.specs.declared.Event.{Event}
 use Rattle.model.specs.declared.FreshAnswer.{FreshAnswer}
 use Rattle.model.specs.declared.FreshAnswer.the-variants as fresh
 use Rattle.model.specs.declared.Outcome.{Outcome}
@@ -56,10 +57,9 @@ told-refused (Refused n) e = refl
 done-keeps : (o : Outcome) (bytes : List ℕ) → Keeps bytes (stepLeft o bytes)
 done-keeps o bytes e = rw (told-refused (o .answer) e)
 
-held-keeps : (d : Option State) (kind number resource ticks : ℕ) (bytes : List ℕ) → Keeps bytes (stepBy d kind number resource ticks bytes)
-held-keeps none kind number resource ticks bytes = λ e. refl
-held-keeps (some st) kind number resource ticks bytes =
-    either-keeps (isEvent kind) bytes _ _ (done-keeps (stepped st (eventOf kind number resource ticks)) bytes) (λ e. refl)
+held-keeps : (d : Option State) (e : Event) (bytes : List ℕ) → Keeps bytes (stepBy d e bytes)
+held-keeps none e bytes = λ r. refl
+held-keeps (some st) e bytes = done-keeps (stepped st e) bytes
 
 pub fresh-keeps : (table bytes : List ℕ) → Keeps bytes (freshExport table bytes)
 unfolding freshExport
@@ -70,7 +70,8 @@ fresh-keeps table bytes =
 
 pub step-keeps : (bytes : List ℕ) (kind number resource ticks : ℕ) → Keeps bytes (stepExport bytes kind number resource ticks)
 unfolding stepExport
-step-keeps bytes kind number resource ticks = held-keeps (decoded bytes) kind number resource ticks bytes
+step-keeps bytes kind number resource ticks =
+    either-keeps (isEvent kind) bytes _ _ (held-keeps (decoded bytes) (eventOf kind number resource ticks) bytes) (λ e. refl)
 
 pub bound-keeps : (sections : List ℕ) (task allowance : ℕ) (bytes : List ℕ) → Keeps bytes (boundExport sections task allowance bytes)
 unfolding boundExport

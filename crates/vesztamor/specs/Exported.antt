@@ -3,9 +3,10 @@ use mathlib.Core.List.{List, _++_}
 use mathlib.Core.Option.{Option, none, some}
 use Prim.Native.Nat.{ℕ, _/_, _%_, _^_}
 use lib.Dec.{eqb}
-use lib.ListN.{length}
+use lib.ListN.{length, replicate}
 use Rattle.laws.specs.Tests.{if_then_else_}
 use Rattle.bytes.specs.Numbers.{four}
+use Rattle.model.specs.declared.Event.{Event}
 use Rattle.model.specs.declared.FreshAnswer.{FreshAnswer}
 use Rattle.model.specs.declared.FreshAnswer.the-variants as fresh
 use Rattle.model.specs.declared.Outcome.{Outcome}
@@ -32,10 +33,13 @@ pub record Exported : Type 0 where
 abbrev pub refusal : ℕ → List ℕ → Exported
 refusal n bytes = record { answer = (refused, n); bytes = bytes }
 
--- a fresh state in place of the bytes: `ok` and 0. Memory that has not the length of a state is `refused` and 0, for which document 01 has no number;
--- bytes that are no table have wrong counts, 19.
+unfoldable pub zeros : List ℕ
+zeros = replicate imageSize 0
+
+-- a fresh state in place of the bytes, written over zeros, so that there is 0 in every byte past its counts (rule 5.3): `ok` and 0. Memory that has not
+-- the length of a state is `refused` and 0; bytes that are no table have wrong counts, 19 (rule 5.4).
 abbrev pub freshLeft : FreshAnswer → State → List ℕ → Exported
-freshLeft fresh.Made st bytes = record { answer = (ok, 0); bytes = encoded st }
+freshLeft fresh.Made st bytes = record { answer = (ok, 0); bytes = encoded st zeros }
 freshLeft (fresh.Refused n) st bytes = refusal n bytes
 
 unfoldable pub freshExport : List ℕ → List ℕ → Exported
@@ -44,15 +48,15 @@ freshExport table bytes =
     then (if isTable table then freshLeft (freshOf (tableIn table) .answer) (freshOf (tableIn table) .state) bytes else refusal 19 bytes)
     else refusal 0 bytes
 
--- "1 state not sound", which bytes that are no state's are too
-abbrev pub soundSaid : Option State → Word × ℕ
-soundSaid none = (refused, 1)
-soundSaid (some st) = if sound st then (ok, 0) else (refused, 1)
+-- whether bytes hold a sound state; those that hold none do not
+abbrev pub isSoundIn : Option State → Bool
+isSoundIn none = false
+isSoundIn (some st) = sound st
 
 unfoldable pub soundExport : List ℕ → Word × ℕ
-soundExport bytes = soundSaid (decoded bytes)
+soundExport bytes = if isSoundIn (decoded bytes) then (ok, 0) else (refused, 1)
 
--- the task that a server executes or spins for; document 01 has no word for a server that is not Running, which is told as `ok` and 0
+-- the task that a server executes or spins for (rule 3.4); a server that is not Running is told as `ok` and 0
 abbrev pub doingTold : Option (Word × ℕ) → Word × ℕ
 doingTold none = (ok, 0)
 doingTold (some said) = said
@@ -65,16 +69,19 @@ unfoldable pub executingExport : List ℕ → ℕ → Word × ℕ
 executingExport bytes s = executingSaid (decoded bytes) s
 
 abbrev pub stepLeft : Outcome → List ℕ → Exported
-stepLeft o bytes = record { answer = said (o .answer); bytes = if isRefused (o .answer) then bytes else encoded (o .state) }
+stepLeft o bytes = record { answer = said (o .answer); bytes = if isRefused (o .answer) then bytes else encoded (o .state) bytes }
 
--- an event by the kind's number of a trace: 1 for bytes that are no state's, then 31 for a kind that is no event's, then what the step says
-abbrev pub stepBy : Option State → ℕ → ℕ → ℕ → ℕ → List ℕ → Exported
-stepBy none kind number resource ticks bytes = refusal 1 bytes
-stepBy (some st) kind number resource ticks bytes =
-    if isEvent kind then stepLeft (stepped st (eventOf kind number resource ticks)) bytes else refusal 31 bytes
+abbrev pub stepBy : Option State → Event → List ℕ → Exported
+stepBy none e bytes = refusal 1 bytes
+stepBy (some st) e bytes = stepLeft (stepped st e) bytes
 
+-- an event by the kind's number of a trace. Refusals are told in ascending order: 1 for bytes that hold no sound state, 31 for a kind that is no event's,
+-- and then what the event's own tests say (rule 10.2).
 unfoldable pub stepExport : List ℕ → ℕ → ℕ → ℕ → ℕ → Exported
-stepExport bytes kind number resource ticks = stepBy (decoded bytes) kind number resource ticks bytes
+stepExport bytes kind number resource ticks =
+    if isEvent kind
+    then stepBy (decoded bytes) (eventOf kind number resource ticks) bytes
+    else refusal (if isSoundIn (decoded bytes) then 31 else 1) bytes
 
 -- the bound in eight bytes and the weighings in four, in place of the bytes lent for them: `ok` and 12. Memory of another length is `refused` and 0;
 -- bytes that are no table of sections have wrong counts, 40.

@@ -1,8 +1,10 @@
 // The exported functions on a state in lent bytes. They take any bytes and any numbers. A caller that shares a state between processors calls them
 // under one lock of its own: they keep nothing between calls. Assumes nothing.
 ghost use mathlib.Core.Path.{_≡_};
+ghost use lib.ListN.{length, replicate};
+ghost use Rattle.image.specs.Decoded.{decoded};
 ghost use Rattle.vesztamor.specs.Packed.{packed};
-ghost use Rattle.vesztamor.specs.Exported.{freshExport, soundExport, executingExport};
+ghost use Rattle.vesztamor.specs.Exported.{freshExport, isSoundIn, soundExport, executingExport};
 use crate::answers::doing_answer;
 use crate::answers::refusal;
 use crate::tables::is_table;
@@ -12,7 +14,16 @@ use image::sizes::IMAGE_SIZE;
 use model::FreshAnswer;
 use model::ServerNo;
 
-// The fresh state of a table, into the bytes lent for it.
+// 0 in every byte.
+fn clear(bytes: &mut [u8])
+    ensures { λ _. ⌜ now (bytes .exit) ≡ replicate (length (now (bytes .entry))) 0 ⌝ }
+{
+    for i in 0..bytes.len() {
+        bytes[i] = 0;
+    }
+}
+
+// The fresh state of a table, into the bytes lent for it, with 0 in every byte past its counts.
 #[no_mangle]
 pub extern "C" fn vesztamor_fresh(table: &[u8], state: &mut [u8]) -> u64
     ensures answer { λ r. ⌜ r ≡ packed (freshExport (now (table .entry)) (now (state .entry)) .answer) ⌝ }
@@ -29,6 +40,7 @@ pub extern "C" fn vesztamor_fresh(table: &[u8], state: &mut [u8]) -> u64
     let fresh = made.state;
     match answer {
         FreshAnswer::Made => {
+            clear(state);
             image::writing::write(fresh, state);
             0
         }
@@ -37,21 +49,24 @@ pub extern "C" fn vesztamor_fresh(table: &[u8], state: &mut [u8]) -> u64
 }
 
 // Whether the bytes hold a sound state.
-#[no_mangle]
-pub extern "C" fn vesztamor_is_sound(state: &[u8]) -> u64
-    ensures { λ r. ⌜ r ≡ packed (soundExport (now (state .entry))) ⌝ }
+pub fn holds_sound(state: &[u8]) -> bool
+    ensures { λ r. ⌜ r ≡ isSoundIn (decoded (now (state .entry))) ⌝ }
 {
     let read = image::reading::read(state);
     let answer = read.answer;
     let held = read.state;
     let ImageAnswer::Held = answer else {
-        return refusal(1);
+        return false;
     };
-    if soundness::sound::is_sound(held) {
-        0
-    } else {
-        refusal(1)
-    }
+    soundness::sound::is_sound(held)
+}
+
+// The same as an answer.
+#[no_mangle]
+pub extern "C" fn vesztamor_is_sound(state: &[u8]) -> u64
+    ensures { λ r. ⌜ r ≡ packed (soundExport (now (state .entry))) ⌝ }
+{
+    if holds_sound(state) { 0 } else { refusal(1) }
 }
 
 // What a server is doing in the state that the bytes hold.

@@ -5,6 +5,7 @@ ghost use Rattle.vesztamor.specs.Exported.{stepExport};
 use crate::answers::is_refused;
 use crate::answers::refusal;
 use crate::answers::step_answer;
+use crate::states::holds_sound;
 use image::ImageAnswer;
 use trace::kinds::event_of;
 use trace::kinds::is_event;
@@ -21,15 +22,18 @@ pub extern "C" fn vesztamor_step(
     ensures answer { λ r. ⌜ r ≡ packed (stepExport (now (state .entry)) kind number resource ticks .answer) ⌝ }
     ensures bytes { λ r. ⌜ now (state .exit) ≡ stepExport (now (state .entry)) kind number resource ticks .bytes ⌝ }
 {
+    if !is_event(kind) {
+        if holds_sound(&state[..]) {
+            return refusal(31);
+        }
+        return refusal(1);
+    }
     let read = image::reading::read(&state[..]);
     let held = read.answer;
     let before = read.state;
     let ImageAnswer::Held = held else {
         return refusal(1);
     };
-    if !is_event(kind) {
-        return refusal(31);
-    }
     let event = event_of(kind, number, resource, ticks);
     let outcome = step::step::step(before, event);
     let answer = outcome.answer;

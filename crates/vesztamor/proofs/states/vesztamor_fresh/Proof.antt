@@ -3,7 +3,7 @@ use mathlib.Core.Path.{refl, sym, ap, _∙_}
 use borrow.Author.Tests.{not-true, not-false}
 use borrow.Author.Needs.{needs}
 use Rattle.model.specs.Fresh.{freshOf}
-use Rattle.vesztamor.proofs.Ways.{both, written-whole, fresh-unfit, fresh-unread, fresh-made, fresh-refused}
+use Rattle.vesztamor.proofs.Ways.{both, written-over, fresh-unfit, fresh-unread, fresh-made, fresh-refused}
 use Rattle.vesztamor.proofs.states.vesztamor_fresh.Statement.{statement}
 use Rattle.vesztamor.proofs.states.vesztamor_fresh.Tie as tie
 
@@ -18,11 +18,12 @@ vesztamor-fresh-spec =
     let read = c .before .before in
     both _ _ _ _ _ (fresh-unread _ _ (read .before .if1 .left) (sym (read .is-table .ensures) ∙ not-true _ (c .before .if2 .taken))) (c .refusal2 .ensures) refl)
     (λ c κs. sym (c .before .is-table .ensures) ∙ not-false _ (c .if2 .left))
-    (λ c κs. search needs) (λ c. search needs) (λ c κs. search needs) (λ c. search needs) (λ c κs. search needs)
-    (λ c. search needs)
+    (λ c κs. search needs) (λ c. search needs) (λ c κs. search needs) (λ c κs. search needs) (λ c. search needs)
+    (λ c κs. search needs) (λ c. search needs)
     (λ c.
     let write = c .before .before in
-    let told = write .before .before in
+    let clear = write .before .before .before .before in
+    let told = clear .before .before in
     let made = told .before .before .before in
     let table = made .before in
     let read = table .before .before in
@@ -30,7 +31,7 @@ vesztamor-fresh-spec =
     both _ _ _ _ _
     (fresh-made _ _ long (sym (read .is-table .ensures) ∙ not-false _ (table .before .if2 .left)) _ (made .fresh .ensures .0 ∙ ap freshOf (table .table-in .ensures)) (told .enum-told .given .1))
     refl
-    (write .write .ensures .1 ∙ written-whole _ (read .before .before .before .before .args .state .now) long))
+    (written-over _ (read .before .before .before .before .args .state .now) _ _ long (clear .clear .ensures) (write .write .ensures .1)))
     (λ c.
     let told = c .before .before in
     let made = told .before .before .before in
