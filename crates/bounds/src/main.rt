@@ -2,12 +2,12 @@
 // docs/BOUNDS.md. What is read, and at which line a table is refused, stands in `bound_text`, what is calculated in `bound`; this only writes.
 use bound::Bounded;
 use bound::Sections;
-use bound::Verdict;
 use bound::table;
 use bound_text::Reading;
 use bound_text::fault;
 use libc::STDOUT_FILENO;
 use model::TaskNo;
+use model::Verdict;
 
 const ALLOWANCE: u32 = 1000000;
 

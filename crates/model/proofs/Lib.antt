@@ -7,3 +7,4 @@ pub mod Boxes
 pub mod Variants
 pub mod Fresh
 pub mod Grounds
+pub mod Refused

@@ -100,6 +100,12 @@ pub struct Outcome {
     pub state: State,
 }
 
+// What tests say: that none refuses, or the number of the first that does.
+pub enum Verdict {
+    Accepted,
+    Refused(u16),
+}
+
 // A task's line of the table from which a state starts.
 pub struct Entry {
     pub quota: u32,
@@ -136,3 +142,4 @@ pub struct Row {
 pub mod blank;
 pub mod builders;
 pub mod entries;
+pub mod verdicts;
