@@ -9,10 +9,12 @@ use Rattle.bound.specs.declared.Bounded.the-variants.{Bound, Refused}
 use Rattle.bound.specs.declared.Parent.the-variants.{Outermost}
 use Rattle.bound.specs.declared.Sections.{Sections}
 use Rattle.bound.specs.declared.Tally.the-variants.{Of, Exceeded}
-use Rattle.bound.specs.declared.Verdict.{Verdict}
-use Rattle.bound.specs.declared.Verdict.the-variants as verdicts
+use Rattle.model.specs.declared.Verdict.{Verdict}
+use Rattle.model.specs.declared.Verdict.the-variants as verdicts
 use Rattle.bound.specs.Sets.{Tasks, Resources, noTask, with}
-use Rattle.bound.specs.Table.{refusal, verdict}
+use Rattle.model.specs.Verdicts.{verdict}
+use Rattle.model.proofs.Refused.{verdict-none, verdict-some}
+use Rattle.bound.specs.Table.{refusal}
 use Rattle.bound.specs.Interference.{level, bound}
 use Rattle.bound.specs.Answer.{answer}
 use Rattle.bound.specs.Computed.{resourcesOf, spend, Rows, rowsOf, outersIn, Ranged, Shown}
@@ -20,7 +22,6 @@ use Rattle.bound.proofs.Accepted.{Accepted}
 use Rattle.bound.proofs.Answers.{table-accepted}
 use Rattle.bound.proofs.Drawing.{rows-drawn, rows-ranged, outers-shown}
 use Rattle.bound.proofs.Turns.{lasted, exceeded}
-use Rattle.bound.proofs.Refusals.{verdict-none, verdict-some}
 use Rattle.bound.proofs.Masks.{mask-none}
 
 -- what the tests tell

@@ -12,40 +12,14 @@ use Rattle.laws.proofs.Cases.{and-right}
 use Rattle.laws.proofs.Fold.{turns-done}
 use Rattle.laws.specs.Tests.{if_then_else_, accepted, _when_or_, firstOf, _orElse_}
 use Rattle.laws.specs.Loops.{allTo, sumTo, foldTo}
+use Rattle.model.specs.Verdicts.{verdict, firstRefused, refusedIf}
+use Rattle.model.proofs.Refused.{verdict-or, verdict-if, one-by-one}
 use Rattle.bound.specs.declared.Parent.{Parent}
 use Rattle.bound.specs.declared.Parent.the-variants.{Inside}
 use Rattle.bound.specs.declared.Sections.{Sections}
-use Rattle.bound.specs.declared.Verdict.{Verdict}
-use Rattle.bound.specs.declared.Verdict.the-variants.{Accepted, Refused}
-use Rattle.bound.specs.Table.{sectionAt, directlyIn, countsFit, parentFits, sectionFits, above, childLength, childrenFit, sectionTests, sectionRefusal, tableRefusal, refusal, verdict}
-use Rattle.bound.specs.Computed.{firstRefused, refusedIf}
-
--- the first of two, and a test alone
-pub verdict-or : (a b : Option ℕ) → firstRefused (verdict a) (verdict b) ≡ verdict (a orElse b)
-verdict-or none b = refl
-verdict-or (some n) b = refl
-
-verdict-if : (n : ℕ) (b : Bool) → refusedIf n b ≡ verdict (firstOf (n when b or accepted))
-unfolding refusedIf firstOf
-verdict-if n true = refl
-verdict-if n false = refl
-
-one-by-one : (n : ℕ) (b : Bool) (ts : List (ℕ × Bool)) → (firstOf (n when b or accepted) orElse firstOf ts) ≡ firstOf (n when b or ts)
-unfolding firstOf
-one-by-one n true ts = refl
-one-by-one n false ts = refl
-
-pub first-told : (earlier later : Verdict) (n : ℕ) → earlier ≡ Refused n → Refused n ≡ firstRefused earlier later
-first-told earlier later n e = rw e
-
--- a verdict taken apart
-pub verdict-none : (o : Option ℕ) → verdict o ≡ Accepted → o ≡ none
-verdict-none none e = refl
-verdict-none (some n) e = absurd (let z : _≡_ {A = ℕ} 0 1 = cc in omega arith)
-
-pub verdict-some : (o : Option ℕ) (n : ℕ) → verdict o ≡ Refused n → o ≡ some n
-verdict-some none n e = absurd (let z : _≡_ {A = ℕ} 0 1 = cc in omega arith)
-verdict-some (some m) n e = ap some (cc)
+use Rattle.model.specs.declared.Verdict.{Verdict}
+use Rattle.model.specs.declared.Verdict.the-variants.{Accepted, Refused}
+use Rattle.bound.specs.Table.{sectionAt, directlyIn, countsFit, parentFits, sectionFits, above, childLength, childrenFit, sectionTests, sectionRefusal, tableRefusal, refusal}
 
 module _ (s : Sections) (i : ℕ) where
   -- 41 but for the parent

@@ -16,20 +16,9 @@ use Rattle.bound.specs.declared.Section.{Section}
 use Rattle.bound.specs.declared.Sections.{Sections}
 use Rattle.bound.specs.declared.Tally.{Tally}
 use Rattle.bound.specs.declared.Tally.the-variants.{Of, Exceeded}
-use Rattle.bound.specs.declared.Verdict.{Verdict}
-use Rattle.bound.specs.declared.Verdict.the-variants.{Accepted, Refused}
 use Rattle.bound.specs.Sets.{taskNumbers, resourceNumbers, Resources, noResource, with, joined}
 use Rattle.bound.specs.Table.{sectionNumbers, million, sectionAt, parentFits, above, outer}
 use Rattle.bound.specs.Interference.{Weighed}
-
--- the first of two verdicts
-abbrev pub firstRefused : Verdict → Verdict → Verdict
-firstRefused Accepted later = later
-firstRefused (Refused n) later = Refused n
-
--- a verdict by one test
-unfoldable pub refusedIf : ℕ → Bool → Verdict
-refusedIf n b = if b then Refused n else Accepted
 
 -- 41 and 42 of section i but for its own numbers, where it is said to stand in p
 abbrev pub parentTests : Sections → ℕ → ℕ → List (ℕ × Bool)

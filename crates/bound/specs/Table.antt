@@ -12,8 +12,6 @@ use Rattle.bound.specs.declared.Parent.{Parent}
 use Rattle.bound.specs.declared.Parent.the-variants.{Outermost, Inside}
 use Rattle.bound.specs.declared.Section.{Section}
 use Rattle.bound.specs.declared.Sections.{Sections}
-use Rattle.bound.specs.declared.Verdict.{Verdict}
-use Rattle.bound.specs.declared.Verdict.the-variants.{Accepted, Refused}
 use Rattle.bound.specs.Sets.{taskNumbers, Resources, noResource, with}
 
 -- how many sections there may be, and how long one
@@ -94,8 +92,3 @@ unfoldable pub refusal : Sections → ℕ → ℕ → Option ℕ
 refusal s t allowance =
     tableRefusal s
     orElse firstOf (44 when not (ltb t (s .tasks)) or 45 when not (leb 1 allowance && leb allowance million) or accepted)
-
--- a refusal as it is answered
-abbrev pub verdict : Option ℕ → Verdict
-verdict none = Accepted
-verdict (some n) = Refused n

@@ -6,13 +6,13 @@ use crate::SECTIONS;
 use crate::Sections;
 use crate::TASKS;
 use crate::Tally;
-use crate::Verdict;
 use crate::draw;
 use crate::interference;
 use crate::interference::Reach;
 use crate::sets;
 use crate::table;
 use model::TaskNo;
+use model::Verdict;
 
 // Rules 12.6 and 12.9 (`Answered.spent-is`, `Answered.answer-of`).
 pub fn bound(s: Sections, task: TaskNo, allowance: u32) -> Bounded

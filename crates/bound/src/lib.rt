@@ -36,12 +36,6 @@ pub struct Sections {
     pub section: [Section; SECTIONS],
 }
 
-// What the tests of a table find: a refusal's number, or none.
-pub enum Verdict {
-    Accepted,
-    Refused(u16),
-}
-
 // The bound and the weighings spent on it, or a refusal's number.
 pub enum Bounded {
     Bound(u64, u32),

@@ -5,33 +5,17 @@ ghost use mathlib.Core.Option.{none};
 ghost use Prim.Native.Nat.{_<_, _≤_};
 ghost use Rattle.laws.specs.Tests.{if_then_else_, firstOf};
 ghost use Rattle.laws.specs.Loops.{allTo, foldTo};
-ghost use Rattle.bound.specs.Table.{sectionNumbers, directlyIn, childrenFit, sectionTests, sectionRefusal, tableRefusal, refusal, verdict};
-ghost use Rattle.bound.specs.Computed.{firstRefused, refusedIf, parentTests};
+ghost use Rattle.model.specs.Verdicts.{verdict};
+ghost use Rattle.bound.specs.Table.{sectionNumbers, directlyIn, childrenFit, sectionTests, sectionRefusal, tableRefusal, refusal};
+ghost use Rattle.bound.specs.Computed.{parentTests};
 use crate::MILLION;
 use crate::Parent;
 use crate::Section;
 use crate::Sections;
-use crate::Verdict;
 use model::TaskNo;
-
-// The first of two refusals.
-fn or_else(earlier: Verdict, later: Verdict) -> Verdict
-    ensures { λ r. ⌜ r ≡ firstRefused earlier later ⌝ }
-{
-    match earlier {
-        Verdict::Accepted => later,
-        Verdict::Refused(n) => Verdict::Refused(n),
-    }
-}
-
-fn refused_if(n: u16, b: bool) -> Verdict
-    ensures { λ r. ⌜ r ≡ refusedIf n b ⌝ }
-{
-    if b {
-        return Verdict::Refused(n);
-    }
-    Verdict::Accepted
-}
+use model::Verdict;
+use model::verdicts::or_else;
+use model::verdicts::refused_if;
 
 // 41 or 42 for section i, where its parent is said to be p.
 fn parent_refusal(s: Sections, i: usize, p: usize) -> Verdict

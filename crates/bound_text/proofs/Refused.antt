@@ -7,10 +7,11 @@ use native.Mathlib.Omega.{arith}
 use lib.Dec.{eqb}
 use lib.ListN.{getD}
 use Rattle.laws.specs.Tests.{if_then_else_}
-use Rattle.bound.specs.declared.Verdict.{Verdict}
-use Rattle.bound.specs.declared.Verdict.the-variants.{Accepted, Refused}
-use Rattle.bound.specs.Table.{tableRefusal, verdict}
-use Rattle.bound.proofs.Refusals.{verdict-none, verdict-some}
+use Rattle.model.specs.declared.Verdict.{Verdict}
+use Rattle.model.specs.declared.Verdict.the-variants.{Accepted, Refused}
+use Rattle.model.specs.Verdicts.{verdict}
+use Rattle.model.proofs.Refused.{verdict-none, verdict-some}
+use Rattle.bound.specs.Table.{tableRefusal}
 use Rattle.bound_text.specs.declared.Reading.{Reading}
 use Rattle.bound_text.specs.Faults.{tableTo, isRefused, lineFrom, faultyLine}
 

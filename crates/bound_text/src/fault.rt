@@ -3,8 +3,8 @@ ghost use mathlib.Core.Path.{_≡_};
 ghost use Rattle.bound_text.specs.Faults.{tableTo, isRefused, faultyLine};
 use crate::Reading;
 use bound::Sections;
-use bound::Verdict;
 use bound::table;
+use model::Verdict;
 
 // The table of the first sections that were read.
 pub fn table_to(reading: Reading, count: u16) -> Sections

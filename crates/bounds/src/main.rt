@@ -3,7 +3,6 @@
 // that is refused is told on standard output, like a bound; where no table is looked at, the reason is told on standard error.
 use bound::Bounded;
 use bound::Sections;
-use bound::Verdict;
 use bound::table;
 use bound_text::Reading;
 use bound_text::fault;
@@ -11,6 +10,7 @@ use libc::STDERR_FILENO;
 use libc::STDIN_FILENO;
 use libc::STDOUT_FILENO;
 use model::TaskNo;
+use model::Verdict;
 
 // The allowance where none is given: the largest.
 const ALLOWANCE: u32 = bound::MILLION;

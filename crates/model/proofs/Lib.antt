@@ -6,3 +6,4 @@ pub mod Room
 pub mod Boxes
 pub mod Variants
 pub mod Grounds
+pub mod Refused

@@ -8,3 +8,4 @@ pub mod Said
 pub mod Meter
 pub mod Groups
 pub mod Shape
+pub mod Verdicts

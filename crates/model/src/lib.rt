@@ -103,6 +103,12 @@ pub struct Outcome {
     pub state: State,
 }
 
+// What tests say: that none refuses, or the number of the first that does.
+pub enum Verdict {
+    Accepted,
+    Refused(u16),
+}
+
 // A task's line of the table from which a state starts (rule 5.1).
 pub struct Entry {
     pub quota: u32,
@@ -149,3 +155,4 @@ pub mod blank;
 pub mod builders;
 pub mod entries;
 pub mod limits;
+pub mod verdicts;

@@ -13,12 +13,13 @@ use Rattle.model.specs.declared.State.{State}
 use Rattle.model.specs.declared.Event.{Event}
 use Rattle.model.specs.declared.Outcome.{Outcome}
 use Rattle.model.specs.Step.{stepped}
+use Rattle.model.specs.Said.{isRefused}
 use Rattle.trace.specs.Reading.{isEvent, eventOf}
 use Rattle.image.specs.Decoded.{decoded}
 use Rattle.image.specs.InUse.{inUseAt, AlikeInUse}
 use Rattle.image.proofs.Image.{decoded-long, decoded-counts}
 use Rattle.image.proofs.Alike.{alike-decoded, encoded-past, encoded-alike}
-use Rattle.vesztamor.specs.Exported.{Exported, isRefused, isSoundIn, soundExport, executingSaid, executingExport, stepLeft, stepBy, stepExport}
+use Rattle.vesztamor.specs.Exported.{Exported, isSoundIn, soundExport, executingSaid, executingExport, stepLeft, stepBy, stepExport}
 
 module _ (a b : List ℕ) (alike : AlikeInUse a b) where
   pub sound-alike : soundExport a ≡ soundExport b

@@ -6,7 +6,8 @@ use borrow.Author.Needs.{needs}
 use native.Mathlib.Omega.{arith}
 use Rattle.laws.specs.Loops.{foldTo}
 use Rattle.laws.proofs.Fold.{fold-none}
-use Rattle.bound.specs.Table.{sectionRefusal, verdict}
+use Rattle.model.specs.Verdicts.{verdict}
+use Rattle.bound.specs.Table.{sectionRefusal}
 use Rattle.bound.proofs.Refusals.{refusal-turn, refusals-done}
 use Rattle.bound.proofs.table.sections_refusal.Statement.{statement}
 use Rattle.bound.proofs.table.sections_refusal.Tie as tie

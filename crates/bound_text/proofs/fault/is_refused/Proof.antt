@@ -1,7 +1,8 @@
 -- `bound_text::fault::is_refused` meets its contract. Assumes nothing.
 use mathlib.Core.Path.{_≡_, _∙_, ap}
 use borrow.Author.Needs.{needs}
-use Rattle.bound.specs.Table.{tableRefusal, verdict}
+use Rattle.model.specs.Verdicts.{verdict}
+use Rattle.bound.specs.Table.{tableRefusal}
 use Rattle.bound_text.specs.Faults.{tableTo}
 use Rattle.bound_text.proofs.Refused.{accepted-is, refused-is}
 use Rattle.bound_text.proofs.fault.is_refused.Statement.{statement}
