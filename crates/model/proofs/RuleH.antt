@@ -146,16 +146,16 @@ module _ (old st : State) (acting : ℕ) where
     unfolding executorOf
     settled-executor = ap placeNo settled-runs ∙ place-runs _ (by-most st (executorOf old t) acting t)
 
-    -- step 1: "the server that executed it before keeps it if still Running and serving it"
+    -- rule 6.1
     pub settled-keeps : runningFor st t (executorOf old t) ≡ true → executorOf (settled old acting st) t ≡ executorOf old t
     settled-keeps h = settled-executor ∙ by-first st (executorOf old t) acting t h
 
-    -- step 2: "else, after a lock or unlock, the server that executed the acting task, if it now serves this one"
+    -- rule 6.2
     pub settled-hands
         : runningFor st t (executorOf old t) ≡ false → runningFor st t acting ≡ true → executorOf (settled old acting st) t ≡ acting
     settled-hands f h = settled-executor ∙ by-second st (executorOf old t) acting t f h
 
-    -- step 3: "else the one with the most remaining budget, lowest number in a tie"
+    -- rule 6.3
     pub settled-chooses
         : runningFor st t (executorOf old t) ≡ false → runningFor st t acting ≡ false → executorOf (settled old acting st) t ≡ chosen st t
     settled-chooses f g = settled-executor ∙ by-third st (executorOf old t) acting t f g
