@@ -1,108 +1,64 @@
--- The arrays of links and chain ends say what the definitions say, entry by entry. Assumes nothing.
-use mathlib.Core.Path.{_≡_, refl, sym, _∙_, ap}
+-- What the arrays have at each place; that links and walk come to the chain ends; and what each loop of the code reads. Assumes nothing.
+use mathlib.Core.Path.{_≡_, refl, sym, _∙_, ap, ap₂}
 use mathlib.Core.Bool.{Bool, true, false}
 use mathlib.Core.List.{List}
-use Prim.Native.Nat.{ℕ, zero, suc, _+_, _-_, _<_, _≤_}
+use Prim.Native.Nat.{ℕ, zero, suc, _-_, _<_, _≤_}
 use native.Mathlib.Numerals.{sub-one}
 use native.Mathlib.Omega.{arith}
 use lib.Dec.{ltb}
-use lib.ListN.{getD, replicate}
-use borrow.Author.Tests.{ltb-true, ltb-false, le-ltb}
+use lib.ListN.{getD}
+use borrow.Author.Tests.{ltb-true, ltb-false}
 use Rattle.laws.specs.Tests.{if_then_else_}
-use Rattle.laws.specs.Loops.{setTo}
 use Rattle.laws.proofs.Cases.{split}
-use Rattle.laws.proofs.Set.{set-at, set-same, set-skip}
-use Rattle.laws.proofs.Lists.{replicate-at}
+use Rattle.laws.proofs.Set.{set-same}
+use Rattle.laws.proofs.Making.{made-at}
 use Rattle.model.specs.declared.TaskNo.{TaskNo}
 use Rattle.model.specs.declared.ServerNo.{ServerNo}
 use Rattle.model.specs.declared.Server.{Server}
 use Rattle.model.specs.declared.State.{State}
-use Rattle.model.specs.State.{places, nobody, noServer, here, present, inUse, running, ownerNo, placeNo, resourceAt, taskAt, awaited, ownerOf, next, chainEnd, served, executorOf}
-use Rattle.model.proofs.Chain.{here-below, owner-past, next-past, present-past, here-past}
-use Rattle.chain.specs.Arrays.{arrayOf, ownersOf, nextsOf, endNumbers, taskOf, tasksOf, serverOf, serversOf, endsOf, executorAt, executorsOf, onAt, onBy, budgetIn, budgetsOf, atOrNobody, endStep, endBy, endsBy}
+use Rattle.model.specs.State.{places, nobody, noServer, here, present, inUse, running, ownerNo, placeNo, resourceAt, awaited, taskAt, ownerOf, next, chainEnd, served, runningAt, executorOf}
+use Rattle.model.proofs.Chain.{here-below, owner-past, next-past, present-past, here-past, served-below}
+use Rattle.chain.specs.Arrays.{arrayOf, taskOf, tasksOf, serverOf, serversOf, ownersOf, wanted, wantedOf, endsOf, executorAt, executorsOf, runsFor, onAt, onBy}
+use Rattle.chain.specs.Computed.{numberAt, numbersOf, atOrNobody, linkAt, linksBy, endStep, endBy, endsBy}
 
-pub array-at : (f : ℕ → ℕ) (i : ℕ) → i < places → getD (arrayOf f) i 0 ≡ f i
-unfolding arrayOf
-array-at f i l = set-at places i f (replicate places nobody) 0 l l
+-- what stands at a place
+module _ (f : ℕ → ℕ) (i : ℕ) (l : i < places) where
+  pub array-at : getD (arrayOf f) i 0 ≡ f i
+  unfolding arrayOf
+  array-at = made-at places f nobody 0 i l
 
-pub array-same : (f g : ℕ → ℕ) → ((i : ℕ) → i < places → f i ≡ g i) → arrayOf f ≡ arrayOf g
-unfolding arrayOf
-array-same f g same = set-same f g places (replicate places nobody) same
-
--- the owner read off the array, for any number
-pub owner-is : (st : State) (r : ℕ) → atOrNobody (ownersOf st) r ≡ ownerOf st r
-unfolding atOrNobody ownersOf
-owner-is st r =
-    split
-    (ltb r places)
-    (λ y. rw y (array-at (ownerOf st) r (ltb-true _ _ y)))
-    (λ n. rw n (sym (owner-past st r (present-past st r (ltb-false _ _ n)))))
-
--- one step of the walk by the array is a link of the chain
-step-is : (st : State) (t : ℕ) (rest : ℕ → ℕ) → endStep rest (nextsOf st) t ≡ (if ltb (next st t) places then rest (next st t) else t)
-unfolding endStep nextsOf
-step-is st t rest =
-    split
-    (ltb t places)
-    (λ y. rw (y, array-at (next st) t (ltb-true _ _ y)))
-    (λ n. rw (n, next-past st t (here-past st t (ltb-false _ _ n))))
-
-pub end-by : (left : ℕ) (st : State) (t : ℕ) → endBy left (nextsOf st) t ≡ chainEnd left st t
-unfolding endBy chainEnd
-end-by zero st t = refl
-end-by (suc left) st t =
-    step-is st t (endBy left (nextsOf st)) ∙ ap (λ e. if ltb (next st t) places then e else t) (end-by left st (next st t))
-
-pub served-by : (st : State) (t : ℕ) → endBy places (nextsOf st) t ≡ served st t
-unfolding served
-served-by st t = end-by places st t
-
-pub ends-are : (st : State) → endsBy (nextsOf st) ≡ endNumbers st
-unfolding endsBy endNumbers
-ends-are st = array-same _ _ (λ i l. served-by st i)
-
-pub end-numbers-at : (st : State) (i : ℕ) → i < places → getD (endNumbers st) i 0 ≡ served st i
-unfolding endNumbers
-end-numbers-at st i l = array-at (served st) i l
-
--- arrays of tasks' numbers, and of servers'
-module _ (f : ℕ → ℕ) where
-  pub tasks-at : (i : ℕ) → i < places → getD (tasksOf f) i (record { 0 = 0 }) .0 ≡ f i
+  pub tasks-at : getD (tasksOf f) i (record { 0 = 0 }) .0 ≡ f i
   unfolding tasksOf taskOf
-  tasks-at i l = ap (λ t. t .0) (set-at places i (taskOf f) (replicate places (record { 0 = nobody })) (record { 0 = 0 }) l l)
+  tasks-at = ap (λ t. t .0) (made-at places (taskOf f) (record { 0 = nobody }) (record { 0 = 0 }) i l)
 
-  pub servers-at : (i : ℕ) → i < places → getD (serversOf f) i (record { 0 = 0 }) .0 ≡ f i
+  pub servers-at : getD (serversOf f) i (record { 0 = 0 }) .0 ≡ f i
   unfolding serversOf serverOf
-  servers-at i l = ap (λ s. s .0) (set-at places i (serverOf f) (replicate places (record { 0 = nobody })) (record { 0 = 0 }) l l)
+  servers-at = ap (λ s. s .0) (made-at places (serverOf f) (record { 0 = nobody }) (record { 0 = 0 }) i l)
 
-  -- a turn that leaves its place as it was
-  pub tasks-skip
-      : (i : ℕ) (xs : List TaskNo)
-      → f i ≡ nobody
-      → xs ≡ setTo i (taskOf f) (replicate places (record { 0 = nobody }))
-      → xs ≡ setTo (i + 1) (taskOf f) (replicate places (record { 0 = nobody }))
-  unfolding taskOf
-  tasks-skip i xs e h = set-skip (taskOf f) i _ xs (record { 0 = nobody }) ((λ j. record { 0 = e j }) ∙ sym (replicate-at places i (record { 0 = nobody }))) h
+-- arrays with the same at each place
+module _ (f g : ℕ → ℕ) (same : (i : ℕ) → i < places → f i ≡ g i) where
+  pub array-same : arrayOf f ≡ arrayOf g
+  unfolding arrayOf
+  array-same = set-same f g places _ same
 
-  pub servers-skip
-      : (i : ℕ) (xs : List ServerNo)
-      → f i ≡ nobody
-      → xs ≡ setTo i (serverOf f) (replicate places (record { 0 = nobody }))
-      → xs ≡ setTo (i + 1) (serverOf f) (replicate places (record { 0 = nobody }))
-  unfolding serverOf
-  servers-skip i xs e h = set-skip (serverOf f) i _ xs (record { 0 = nobody }) ((λ j. record { 0 = e j }) ∙ sym (replicate-at places i (record { 0 = nobody }))) h
+  pub tasks-same : tasksOf f ≡ tasksOf g
+  unfolding tasksOf taskOf
+  tasks-same = set-same (taskOf f) (taskOf g) places _ (λ i l j. record { 0 = same i l j })
 
-pub tasks-same : (f g : ℕ → ℕ) → ((i : ℕ) → i < places → f i ≡ g i) → tasksOf f ≡ tasksOf g
-unfolding tasksOf taskOf
-tasks-same f g same = set-same (taskOf f) (taskOf g) places _ (λ i l j. record { 0 = same i l j })
-
-pub servers-same : (f g : ℕ → ℕ) → ((i : ℕ) → i < places → f i ≡ g i) → serversOf f ≡ serversOf g
-unfolding serversOf serverOf
-servers-same f g same = set-same (serverOf f) (serverOf g) places _ (λ i l j. record { 0 = same i l j })
+  pub servers-same : serversOf f ≡ serversOf g
+  unfolding serversOf serverOf
+  servers-same = set-same (serverOf f) (serverOf g) places _ (λ i l j. record { 0 = same i l j })
 
 pub ends-at : (st : State) (i : ℕ) → i < places → getD (endsOf st) i (record { 0 = 0 }) .0 ≡ served st i
 unfolding endsOf
 ends-at st i l = tasks-at (served st) i l
+
+module _ (st : State) (ends : List TaskNo) (s : ℕ) (e : ends ≡ endsOf st) (l : s < places) where
+  pub end-served : getD ends s (record { 0 = 0 }) .0 ≡ served st s
+  end-served = ap (λ (xs : List TaskNo). getD xs s (record { 0 = 0 }) .0) e ∙ ends-at st s l
+
+  pub end-below : getD ends s (record { 0 = 0 }) .0 < places
+  end-below = rw end-served (served-below st s l)
 
 -- of a state with the same chains
 pub ends-same : (st u : State) → ((s : ℕ) → served st s ≡ served u s) → endsOf st ≡ endsOf u
@@ -113,6 +69,93 @@ pub executors-at : (st : State) (t : ℕ) → here st t ≡ true → getD (execu
 unfolding executorsOf executorAt
 executors-at st t h = servers-at (executorAt st) t (here-below st t h) ∙ rw h
 
+-- whom a server serves while it is Running
+pub on-served : (st : State) (s : ℕ) → s < places → onAt (st .server) (st .tasks) (endsOf st) s ≡ runsFor st s
+unfolding runsFor onAt runningAt here
+on-served st s l = split (inUse (st .tasks) s) (λ y. rw (y, ends-at st s l)) (λ n. rw n)
+
+-- tasks' numbers as plain numbers
+pub numbers-tasks : (f : ℕ → ℕ) → numbersOf (tasksOf f) ≡ arrayOf f
+unfolding numbersOf numberAt
+numbers-tasks f = array-same _ f (tasks-at f)
+
+pub number-at : (xs : List TaskNo) (i : ℕ) → i < places → getD (numbersOf xs) i 0 ≡ getD xs i (record { 0 = 0 }) .0
+unfolding numbersOf numberAt
+number-at xs i l = array-at (numberAt xs) i l
+
+-- an array read at any place, where its function has nobody past the end
+array-any : (f : ℕ → ℕ) → ((i : ℕ) → places ≤ i → f i ≡ nobody) → (i : ℕ) → atOrNobody (arrayOf f) i ≡ f i
+unfolding atOrNobody
+array-any f past i =
+    split
+    (ltb i places)
+    (λ y. rw y (array-at f i (ltb-true i places y)))
+    (λ n. rw n (sym (past i (ltb-false i places n))))
+
+pub owner-is : (st : State) (r : ℕ) → atOrNobody (arrayOf (ownerOf st)) r ≡ ownerOf st r
+owner-is st = array-any (ownerOf st) (λ r l. owner-past st r (present-past st r l))
+
+pub wanted-is : (st : State) (t : ℕ) → atOrNobody (wantedOf st) t ≡ wanted st t
+unfolding wantedOf wanted
+wanted-is st = array-any (wanted st) (λ t l. rw (here-past st t l))
+
+pub runs-for-is : (st : State) (s : ℕ) → atOrNobody (arrayOf (runsFor st)) s ≡ runsFor st s
+unfolding runsFor runningAt
+runs-for-is st = array-any (runsFor st) (λ s l. rw (here-past st s l))
+
+-- the owner of what a task waits for is its link
+module _ (st : State) where
+  wanted-owner : (t : ℕ) → ownerOf st (wanted st t) ≡ next st t
+  unfolding wanted next
+  wanted-owner t = split (here st t) (λ y. rw y) (λ n. rw n (owner-past st nobody (present-past st nobody (omega arith))))
+
+  pub link-is : (t : ℕ) → t < places → linkAt (arrayOf (ownerOf st)) (wantedOf st) t ≡ next st t
+  unfolding linkAt wantedOf
+  link-is t l = ap (atOrNobody (arrayOf (ownerOf st))) (array-at (wanted st) t l) ∙ owner-is st (wanted st t) ∙ wanted-owner t
+
+  links-are : linksBy (arrayOf (ownerOf st)) (wantedOf st) ≡ arrayOf (next st)
+  unfolding linksBy
+  links-are = array-same _ (next st) link-is
+
+  -- one step of the walk is a link of the chain
+  step-is : (t : ℕ) (rest : ℕ → ℕ) → endStep rest (arrayOf (next st)) t ≡ (if ltb (next st t) places then rest (next st t) else t)
+  unfolding endStep
+  step-is t rest =
+      split
+      (ltb t places)
+      (λ y. rw (y, array-at (next st) t (ltb-true _ _ y)))
+      (λ n. rw (n, next-past st t (here-past st t (ltb-false _ _ n))))
+
+  end-by : (left t : ℕ) → endBy left (arrayOf (next st)) t ≡ chainEnd left st t
+  unfolding endBy chainEnd
+  end-by zero t = refl
+  end-by (suc left) t = step-is t (endBy left (arrayOf (next st))) ∙ ap (λ e. if ltb (next st t) places then e else t) (end-by left (next st t))
+
+  -- the walk along the links that the code makes
+  module _ (owners wants : List ℕ) (oe : owners ≡ arrayOf (ownerOf st)) (we : wants ≡ wantedOf st) where
+    pub walk-end : (links : List ℕ) (t end : ℕ) → links ≡ linksBy owners wants → end ≡ endBy places links t → end ≡ served st t
+    unfolding served
+    walk-end links t end l e = e ∙ ap (λ xs. endBy places xs t) (l ∙ ap₂ linksBy oe we ∙ links-are) ∙ end-by places t
+
+    pub ends-are : endsBy owners wants ≡ endsOf st
+    unfolding endsBy endsOf
+    ends-are = tasks-same _ _ (λ t l. walk-end _ t _ refl refl)
+
+  -- what the code makes of owners and of Running servers
+  pub owners-read : (held : List TaskNo) (owners : List ℕ) → held ≡ ownersOf st → owners ≡ numbersOf held → owners ≡ arrayOf (ownerOf st)
+  unfolding ownersOf
+  owners-read held owners h e = e ∙ ap numbersOf h ∙ numbers-tasks (ownerOf st)
+
+  pub runs-for-read
+      : (ends on : List TaskNo) (runsBy : List ℕ)
+      → ends ≡ endsOf st
+      → on ≡ onBy (st .server) (st .tasks) ends
+      → runsBy ≡ numbersOf on
+      → runsBy ≡ arrayOf (runsFor st)
+  unfolding onBy
+  runs-for-read ends on runsBy ee o e =
+      e ∙ ap numbersOf (o ∙ ap (λ xs. onBy (st .server) (st .tasks) xs) ee) ∙ numbers-tasks _ ∙ array-same _ (runsFor st) (on-served st)
+
 -- the walk's two ways out, for the code
 pub end-none : (links : List ℕ) (t left : ℕ) → left ≡ 0 → t ≡ endBy left links t
 unfolding endBy
@@ -122,70 +165,6 @@ pub end-more : (links : List ℕ) (t left r : ℕ) → (left ≡ 0 → ⊥) → 
 unfolding endBy
 end-more links t zero r f e = absurd (f refl)
 end-more links t (suc left) r f e = e ∙ ap (λ k. endStep (endBy k links) links t) (sub-one (suc left))
-
--- a turn that leaves its place as it was
-pub array-skip
-    : (f : ℕ → ℕ) (i : ℕ) (xs : List ℕ) → f i ≡ nobody → xs ≡ setTo i f (replicate places nobody) → xs ≡ setTo (i + 1) f (replicate places nobody)
-array-skip f i xs e h = set-skip f i (replicate places nobody) xs nobody (e ∙ sym (replicate-at places i nobody)) h
-
--- what a turn of each loop reads, for the code
-pub owner-read
-    : (st : State) (r v : ℕ)
-    → present st r ≡ true
-    → v ≡ (if inUse (st .tasks) (ownerNo (resourceAt st r .owner)) then ownerNo (resourceAt st r .owner) else nobody)
-    → v ≡ ownerOf st r
-unfolding ownerOf here
-owner-read st r v p e = e ∙ rw p
-
-pub next-read : (st : State) (t v : ℕ) → here st t ≡ true → v ≡ ownerOf st (awaited (taskAt st t .mode)) → v ≡ next st t
-unfolding next
-next-read st t v h e = e ∙ rw h
-
-pub end-task : (links : List ℕ) (t end : ℕ) → end ≡ endBy places links t → _≡_ {A = TaskNo} (record { 0 = end }) (taskOf (endBy places links) t)
-unfolding taskOf
-end-task links t end e = λ i. record { 0 = e i }
-
-pub ends-done : (st : State) (links : List ℕ) (ends : List TaskNo) → links ≡ nextsOf st → ends ≡ tasksOf (endBy places links) → ends ≡ endsOf st
-unfolding endsOf
-ends-done st links ends n e = e ∙ tasks-same _ _ (λ t l. ap (λ xs. endBy places xs t) n ∙ served-by st t)
-
-pub executor-read : (st : State) (t : ℕ) (v : ServerNo) → here st t ≡ true → v ≡ record { 0 = placeNo (taskAt st t .runs) } → v ≡ serverOf (executorAt st) t
-unfolding serverOf executorAt executorOf
-executor-read st t v h e = rw h e
-
-pub executor-past : (st : State) (t : ℕ) → here st t ≡ false → executorAt st t ≡ nobody
-unfolding executorAt
-executor-past st t h = rw h
-
-pub on-read
-    : (servers : List Server) (count : ℕ) (ends : List TaskNo) (s : ℕ) (v : TaskNo) (b : Bool)
-    → inUse count s ≡ true
-    → b ≡ running (getD servers s noServer .phase)
-    → v ≡ (if b then getD ends s (record { 0 = 0 }) else record { 0 = 16 })
-    → v ≡ taskOf (onAt servers count ends) s
-unfolding taskOf onAt
-on-read servers count ends s v b h p e =
-    e ∙ ap (λ x. if x then getD ends s (record { 0 = 0 }) else record { 0 = 16 }) p
-    ∙ split
-    (running (getD servers s noServer .phase))
-    (λ y. rw (h, y))
-    (λ n. rw (h, n))
-
-pub on-past : (servers : List Server) (count : ℕ) (ends : List TaskNo) (s : ℕ) → inUse count s ≡ false → onAt servers count ends s ≡ nobody
-unfolding onAt
-on-past servers count ends s h = rw h
-
-pub budget-read : (servers : List Server) (count s : ℕ) → inUse count s ≡ true → getD servers s noServer .budget ≡ budgetIn servers count s
-unfolding budgetIn
-budget-read servers count s h = rw h
-
-pub budget-skip
-    : (servers : List Server) (count s : ℕ) (xs : List ℕ)
-    → inUse count s ≡ false
-    → xs ≡ setTo s (budgetIn servers count) (replicate places 0)
-    → xs ≡ setTo (s + 1) (budgetIn servers count) (replicate places 0)
-unfolding budgetIn
-budget-skip servers count s xs h e = set-skip _ s _ xs 0 (rw h (sym (replicate-at places s 0))) e
 
 -- a walk from a number that fits ends at one that fits
 pub end-fits : (left : ℕ) (links : List ℕ) (t n : ℕ) → t < n → places ≤ n → endBy left links t < n
@@ -200,3 +179,42 @@ end-fits (suc left) links t n l h =
     (λ z. rw (y, z) (end-fits left links (getD links t 0) n (let k : getD links t 0 < places = ltb-true _ _ z in omega arith) h))
     (λ z. rw (y, z) l))
     (λ y. rw y l)
+
+-- what a turn of each loop stores at a number in use, for the code
+pub owner-read
+    : (st : State) (r : ℕ) (v : TaskNo)
+    → present st r ≡ true
+    → v ≡ record { 0 = (if inUse (st .tasks) (ownerNo (resourceAt st r .owner)) then ownerNo (resourceAt st r .owner) else nobody) }
+    → v ≡ taskOf (ownerOf st) r
+unfolding taskOf ownerOf here
+owner-read st r v p e = rw p e
+
+pub owner-none : (st : State) (r : ℕ) → present st r ≡ false → taskOf (ownerOf st) r ≡ record { 0 = nobody }
+unfolding taskOf
+owner-none st r e = rw (owner-past st r e)
+
+pub executor-read : (st : State) (t : ℕ) (v : ServerNo) → here st t ≡ true → v ≡ record { 0 = placeNo (taskAt st t .runs) } → v ≡ serverOf (executorAt st) t
+unfolding serverOf executorAt executorOf
+executor-read st t v h e = rw h e
+
+pub executor-none : (st : State) (t : ℕ) → here st t ≡ false → serverOf (executorAt st) t ≡ record { 0 = nobody }
+unfolding serverOf executorAt
+executor-none st t h = rw h
+
+module _ (servers : List Server) (count : ℕ) (ends : List TaskNo) (s : ℕ) where
+  pub on-read
+      : (v : TaskNo) (b : Bool)
+      → inUse count s ≡ true
+      → b ≡ running (getD servers s noServer .phase)
+      → v ≡ record { 0 = (if b then getD ends s (record { 0 = 0 }) .0 else 16) }
+      → v ≡ taskOf (onAt servers count ends) s
+  unfolding taskOf onAt
+  on-read v b h p e = rw (h, ← p) e
+
+  pub on-none : inUse count s ≡ false → taskOf (onAt servers count ends) s ≡ record { 0 = nobody }
+  unfolding taskOf onAt
+  on-none h = rw h
+
+pub end-task : (links : List ℕ) (t end : ℕ) → end ≡ endBy places links t → _≡_ {A = TaskNo} (record { 0 = end }) (taskOf (endBy places links) t)
+unfolding taskOf
+end-task links t end e = λ i. record { 0 = e i }

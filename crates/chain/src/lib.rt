@@ -1,5 +1,5 @@
-// The chain walk: the links of a state taken out of it once, the end of a chain found by a function that calls itself on them with the tasks left
-// falling, and the ends of all chains. Every function takes any state, sound or not.
+// What is taken out of a state: the links of its tasks, the ends of their chains by a function that calls itself with the tasks left falling, and what
+// rule H reads of servers. Every function takes any state, sound or not.
 pub mod links;
 pub mod servers;
 pub mod walk;

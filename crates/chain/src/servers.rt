@@ -1,19 +1,20 @@
 // What rule H and the soundness test take out of a state's servers and tasks: who executes each task, whom the Running servers serve, what remains of
-// each budget. A number that is nobody's is 16. Entries that are not in use are not read. Assumes nothing.
+// each budget. Entries that are not in use are not read. Assumes nothing.
 ghost use mathlib.Core.Path.{_≡_};
 ghost use Rattle.chain.specs.Arrays.{executorsOf, onBy, budgetsOf};
 ghost use Rattle.laws.specs.Tests.{if_then_else_};
+use model::NOBODY;
 use model::Server;
 use model::ServerNo;
 use model::State;
 use model::TaskNo;
 
-// Who executes each task, or 16.
+// Who executes each task, or nobody.
 pub fn executors(st: State) -> [ServerNo; 16]
     ensures { λ r. ⌜ r ≡ executorsOf st ⌝ }
 {
     let tasks = st.tasks;
-    let mut xs = [ServerNo(16); 16];
+    let mut xs = [ServerNo(NOBODY); 16];
     for t in 0..16usize {
         if model::entries::in_use(tasks, t) {
             let task = st.task[t];
@@ -24,18 +25,18 @@ pub fn executors(st: State) -> [ServerNo; 16]
     xs
 }
 
-// The task where the test holds, else 16.
-fn task_if(b: bool, t: TaskNo) -> TaskNo
-    ensures { λ r. ⌜ r ≡ (if b then t else record { 0 = 16 }) ⌝ }
+// The task where the test holds, else nobody.
+pub(crate) fn task_if(b: bool, t: TaskNo) -> TaskNo
+    ensures { λ r. ⌜ r ≡ record { 0 = (if b then t .0 else 16) } ⌝ }
 {
-    if b { t } else { TaskNo(16) }
+    if b { t } else { TaskNo(NOBODY) }
 }
 
-// The task that each server serves while it is Running, or 16.
+// The task that each server serves while it is Running, or nobody.
 pub fn running_for(servers: [Server; 16], count: u16, ends: [TaskNo; 16]) -> [TaskNo; 16]
     ensures { λ r. ⌜ r ≡ onBy servers count ends ⌝ }
 {
-    let mut xs = [TaskNo(16); 16];
+    let mut xs = [TaskNo(NOBODY); 16];
     for s in 0..16usize {
         if model::entries::in_use(count, s) {
             let server = servers[s];

@@ -1,34 +1,30 @@
 -- What the code of fresh cites: its answer task by task, and an entry of the arrays that it makes. Assumes nothing.
 use mathlib.Core.Path.{_≡_, refl, sym, ap, ap₂, _∙_}
-use mathlib.Core.Bool.{true, false, _&&_}
+use mathlib.Core.Bool.{true, false}
 use mathlib.Core.Option.{Option, none, some}
 use Prim.Native.Nat.{ℕ, _+_, _<_, _≤_}
 use native.Mathlib.Numerals.{add-one}
 use native.Mathlib.Omega.{arith}
-use lib.Dec.{leb}
-use borrow.Author.Tests.{lt-ltb, le-ltb, leb-true}
-use Rattle.laws.specs.Tests.{_orElse_, firstOf, accepted}
+use borrow.Author.Tests.{lt-ltb, le-ltb}
+use Rattle.laws.specs.Tests.{_orElse_}
 use Rattle.laws.specs.Loops.{foldTo}
-use Rattle.laws.proofs.Fold.{turns-done, fold-keeps}
-use Rattle.laws.proofs.Cases.{and-right}
-use Rattle.model.specs.declared.Entry.{Entry}
+use Rattle.laws.proofs.Fold.{turns-done}
+use Rattle.laws.proofs.Cases.{or-none}
 use Rattle.model.specs.declared.Table.{Table}
 use Rattle.model.specs.declared.State.{State}
 use Rattle.model.specs.declared.FreshOutcome.{FreshOutcome}
 use Rattle.model.specs.declared.FreshAnswer.{FreshAnswer}
 use Rattle.model.specs.declared.FreshAnswer.the-variants.{Made, Refused}
-use Rattle.model.specs.Sound.{countsFit, quotaFits, declaredFits}
-use Rattle.model.specs.Fresh.{entryAt, countsRefusal, entryRefusal, taskRefusal, freshRefusal, freshState, unusable, freshOf}
+use Rattle.model.specs.Sound.{countsFit}
+use Rattle.model.specs.Fresh.{entryAt, entryRefusal, taskRefusal, freshRefusal, freshState, unusable, freshOf}
 use Rattle.model.specs.Said.{saidFresh}
+use Rattle.model.proofs.Sound.{counts-fact}
 use Rattle.fresh.specs.Start.{answerOf, firstAnswer, freshSays}
+use Rattle.fresh.proofs.Refusals.{refused-stays, counts-refused, counts-accepted}
 
 first-or : (x y : Option ℕ) → firstAnswer (answerOf x) (answerOf y) ≡ answerOf (x orElse y)
 first-or none y = refl
 first-or (some n) y = refl
-
-or-none : (x : Option ℕ) → (x orElse none) ≡ x
-or-none none = refl
-or-none (some n) = refl
 
 -- the refusal after the first i tasks
 unfoldable pub refusalTo : Table → ℕ → Option ℕ
@@ -49,17 +45,17 @@ pub answer-skip : (tb : Table) (i : ℕ) (a : FreshAnswer) → tb .tasks ≤ i �
 unfolding foldTo taskRefusal refusalTo
 answer-skip tb i a l p = rw (add-one, le-ltb i (tb .tasks) l, or-none) p
 
--- counts that do not fit are told first, and whatever the tasks say
-pub counts-refused : (tb : Table) → countsFit (tb .processors) (tb .tasks) (tb .resources) ≡ false → freshRefusal tb ≡ some 19
-unfolding freshRefusal countsRefusal taskRefusal firstOf
-counts-refused tb e = rw e (fold-keeps (λ x. x ≡ some 19) (taskRefusal tb) 16 (λ i l x p. rw p) (some 19) refl)
+-- counts that do not fit are told, whatever the tasks say
+pub counts-told : (tb : Table) → countsFit (tb .processors) (tb .tasks) (tb .resources) ≡ false → freshRefusal tb ≡ some 19
+unfolding freshRefusal
+counts-told tb e = rw (counts-refused tb e) (refused-stays tb 16 19)
 
-counts-accepted : (tb : Table) → countsFit (tb .processors) (tb .tasks) (tb .resources) ≡ true → refusalTo tb 16 ≡ freshRefusal tb
-unfolding freshRefusal countsRefusal firstOf refusalTo
-counts-accepted tb e = rw e refl
+tasks-told : (tb : Table) → countsFit (tb .processors) (tb .tasks) (tb .resources) ≡ true → refusalTo tb 16 ≡ freshRefusal tb
+unfolding freshRefusal refusalTo
+tasks-told tb e = rw (counts-accepted tb e) refl
 
 pub counts-resources : (tb : Table) → countsFit (tb .processors) (tb .tasks) (tb .resources) ≡ true → tb .resources ≤ 16
-counts-resources tb e = leb-true (tb .resources) 16 (and-right (leb 1 (tb .processors) && leb (tb .processors) 8 && leb 1 (tb .tasks) && leb (tb .tasks) 16) _ e)
+counts-resources tb e = counts-fact (tb .processors) (tb .tasks) (tb .resources) .holds e .1
 
 pub answer-none : (tb : Table) → Made ≡ answerOf (refusalTo tb 0)
 unfolding refusalTo foldTo
@@ -72,7 +68,7 @@ pub answer-done
     → 16 ≤ i
     → a ≡ answerOf (refusalTo tb i)
     → a ≡ answerOf (freshRefusal tb)
-answer-done tb i a e l g p = turns-done (λ n. answerOf (refusalTo tb n)) i 16 a l g p ∙ ap answerOf (counts-accepted tb e)
+answer-done tb i a e l g p = turns-done (λ n. answerOf (refusalTo tb n)) i 16 a l g p ∙ ap answerOf (tasks-told tb e)
 
 -- what fresh gives back, and says, where its answer is known
 made-none : (x : Option ℕ) → Made ≡ answerOf x → x ≡ none

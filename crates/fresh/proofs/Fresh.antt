@@ -1,60 +1,28 @@
--- Theorems on fresh: the state of a table that is not refused is sound and shaped; that of a refused one is not sound, and shaped. Assumes nothing.
+-- Theorems on fresh: the state of a table that is not refused is sound and shaped; that of a refused one is not sound. Assumes nothing.
 use mathlib.Core.Path.{_≡_, refl, sym, ap, _∙_}
 use mathlib.Core.Bool.{true, false, true≢false}
 use mathlib.Core.Logic.{inr, ⊎-elim}
-use mathlib.Core.Option.{Option, none, some}
-use Prim.Native.Nat.{ℕ, zero, suc, _<_, _≤_, _^_}
+use mathlib.Core.Option.{none}
+use Prim.Native.Nat.{ℕ, _<_}
 use native.Mathlib.Omega.{arith}
 use lib.Dec.{ltb}
-use lib.ListN.{getD, length, replicate, length-replicate, getD-replicate}
+use lib.ListN.{length, replicate, getD-replicate}
 use borrow.Author.Tests.{ltb-true, lt-ltb, le-ltb, ne-eqb}
-use Rattle.laws.specs.Tests.{if_then_else_, bit, firstOf, _orElse_}
-use Rattle.laws.specs.Loops.{foldTo, countTo, setTo}
-use Rattle.laws.proofs.Cases.{split, if-yes, none-some}
-use Rattle.laws.proofs.Fold.{last-or-below}
+use Rattle.laws.specs.Tests.{if_then_else_, bit}
+use Rattle.laws.specs.Loops.{countTo, setTo}
+use Rattle.laws.proofs.Cases.{split, if-yes}
 use Rattle.laws.proofs.Count.{count-zero}
 use Rattle.laws.proofs.Set.{set-at, length-setTo}
-use Rattle.laws.proofs.Reflect.{reflects-le, reflects-lt, reflects-and, reflects-false}
-use Rattle.model.specs.declared.Entry.{Entry}
+use Rattle.laws.proofs.Reflect.{reflects-false}
 use Rattle.model.specs.declared.Table.{Table}
 use Rattle.model.specs.declared.State.{State}
 use Rattle.model.specs.State.{places, nobody, serverAt, taskAt, resourceAt, here, present, noServer, noTask, noResource, ownerOf, next, served, runningAt}
-use Rattle.model.specs.Sound.{countsFit, quotaFits, declaredFits, heldAt, queuedAt, sound}
+use Rattle.model.specs.Sound.{quotaFits, declaredFits, heldAt, queuedAt, sound}
 use Rattle.model.specs.Shape.{Shaped}
-use Rattle.model.specs.Fresh.{entryAt, countsRefusal, entryRefusal, taskRefusal, freshRefusal, blankServer, blankTask, blankResource, freshServer, freshTask, freshServerAt, freshTaskAt, freshState, unusable}
+use Rattle.model.specs.Fresh.{entryAt, countsRefusal, entryRefusal, freshRefusal, blankServer, blankTask, blankResource, freshServer, freshTask, freshServerAt, freshTaskAt, freshState, unusable}
 use Rattle.model.proofs.Chain.{here-below, here-tasks, present-below, owner-past, present-past, next-past, end-itself}
-use Rattle.model.proofs.Sound.{Sound, sound-facts}
-
--- a refusal that is none is none at each test
-or-none : (x y : Option ℕ) → (x orElse y) ≡ none → (x ≡ none) × (y ≡ none)
-or-none none y e = (refl, e)
-or-none (some n) y e = none-some (sym e)
-
-tests-none : (tb : Table) (n : ℕ) (a : Option ℕ) → foldTo n (taskRefusal tb) a ≡ none → (a ≡ none) × ((t : ℕ) → t < n → t < tb .tasks → entryRefusal (tb .resources) (entryAt tb t) ≡ none)
-unfolding foldTo taskRefusal
-tests-none tb zero a e = (e, λ t l. absurd (omega arith))
-tests-none tb (suc n) a e =
-    let both = or-none _ _ e in
-    let before = tests-none tb n a (both .0) in (
-      before .0,
-      λ t l m.
-          ⊎-elim
-          (λ (q : t ≡ n). rw q (sym (if-yes _ _ _ (lt-ltb n (tb .tasks) (omega arith))) ∙ both .1))
-          (λ (q : t < n). before .1 t q m)
-          (last-or-below t n l),
-    )
-
-counts-none : (tb : Table) → countsRefusal tb ≡ none → countsFit (tb .processors) (tb .tasks) (tb .resources) ≡ true
-unfolding countsRefusal firstOf
-counts-none tb e = split (countsFit (tb .processors) (tb .tasks) (tb .resources)) (λ y. y) (λ n. none-some (sym (rw n at e)))
-
-entry-none : (resources : ℕ) (e : Entry) → entryRefusal resources e ≡ none → (quotaFits (e .quota) (e .period) ≡ true) × (declaredFits resources (e .declared) ≡ true)
-unfolding entryRefusal firstOf
-entry-none resources e h =
-    split
-    (quotaFits (e .quota) (e .period))
-    (λ y. split (declaredFits resources (e .declared)) (λ z. (y, z)) (λ n. none-some (sym (rw (y, n) at h))))
-    (λ n. none-some (sym (rw n at h)))
+use Rattle.model.proofs.Sound.{Counts, counts-fact, Quota, quota-fact, Sound, sound-facts}
+use Rattle.fresh.proofs.Refusals.{counts-fit, tests-none, entry-none}
 
 module _ (tb : Table) (accepted : freshRefusal tb ≡ none) where
   abbrev st : State
@@ -65,23 +33,15 @@ module _ (tb : Table) (accepted : freshRefusal tb ≡ none) where
   unfolding freshRefusal
   told = tests-none tb places (countsRefusal tb) accepted
 
-  abbrev Counts : Type 0
-  Counts = ((((1 ≤ tb .processors) × (tb .processors ≤ 8)) × (1 ≤ tb .tasks)) × (tb .tasks ≤ 16)) × (tb .resources ≤ 16)
-
-  counts : Counts
-  counts =
-      reflects-and
-      (reflects-and (reflects-and (reflects-and (reflects-le 1 (tb .processors)) (reflects-le (tb .processors) 8)) (reflects-le 1 (tb .tasks))) (reflects-le (tb .tasks) 16))
-      (reflects-le (tb .resources) 16)
-      .holds
-      (counts-none tb (told .0))
+  counts : Counts (tb .processors) (tb .tasks) (tb .resources)
+  counts = counts-fact (tb .processors) (tb .tasks) (tb .resources) .holds (counts-fit tb (told .0))
 
   entry-told : (i : ℕ) → here st i ≡ true → (quotaFits (entryAt tb i .quota) (entryAt tb i .period) ≡ true) × (declaredFits (tb .resources) (entryAt tb i .declared) ≡ true)
   unfolding freshState
   entry-told i h = entry-none (tb .resources) (entryAt tb i) (told .1 i (here-below st i h) (here-tasks st i h))
 
-  quota-told : (i : ℕ) → here st i ≡ true → ((1 ≤ entryAt tb i .quota) × (entryAt tb i .quota ≤ entryAt tb i .period)) × (entryAt tb i .period ≤ 1000000)
-  quota-told i h = reflects-and (reflects-and (reflects-le _ _) (reflects-le _ _)) (reflects-le _ _) .holds (entry-told i h .0)
+  quota-told : (i : ℕ) → here st i ≡ true → Quota (entryAt tb i .quota) (entryAt tb i .period)
+  quota-told i h = quota-fact (entryAt tb i .quota) (entryAt tb i .period) .holds (entry-told i h .0)
 
   -- what the state has
   server-fresh : (i : ℕ) → here st i ≡ true → serverAt st i ≡ freshServer (entryAt tb i)
@@ -134,11 +94,11 @@ module _ (tb : Table) (accepted : freshRefusal tb ≡ none) where
       tasks-most = counts .0 .1;
       resources-most = counts .1;
       clock-most = omega arith;
-      reservation = λ i y. let q = quota-told i y in rw (server-fresh i y) (q .0 .0, q .0 .1, q .1);
+      reservation = λ i y. rw (server-fresh i y) (quota-told i y);
       declaration = λ i y. rw (task-fresh i y) (ltb-true _ _ (entry-told i y .1));
       deadline = λ i y. rw (server-fresh i y) (omega arith);
       budget = λ i y. rw (server-fresh i y) (omega arith);
-      empty = λ i y. rw (server-fresh i y) (λ e. absurd (omega (arith, quota-told i y .0 .0)), λ e. absurd (true≢false (sym e)));
+      empty = λ i y. rw (server-fresh i y) (λ e. absurd (omega (arith, quota-told i y .0)), λ e. absurd (true≢false (sym e)));
       stack = λ i y. rw (task-fresh i y) (omega arith, λ j l m. absurd (omega arith));
       queue = λ r p. rw (resource-fresh r p) (omega arith, λ j l m. absurd (omega arith));
       owner = λ r p. rw (resource-fresh r p) (λ e. absurd (true≢false (sym e)));
@@ -168,7 +128,7 @@ fresh-sound tb e = sound-facts (freshState tb) .test (fresh-is-sound tb e)
 pub refused-unsound : sound unusable ≡ false
 refused-unsound = reflects-false (sound-facts unusable) (λ h. omega (arith, h .is-loose .processors-least))
 
--- and both have every place
+-- and the fresh state has every place
 held-shaped : (tb : Table) (t : ℕ) → length (freshTaskAt tb t .held) ≡ places
 unfolding freshTaskAt
 held-shaped tb t = split (ltb t (tb .tasks)) (λ y. rw y) (λ n. rw n)
@@ -180,14 +140,5 @@ fresh-shaped tb = record {
   tasks = length-setTo places (freshTaskAt tb) (replicate places blankTask);
   resources = refl;
   stacks = λ t l. ap (λ k. length (k .held)) (set-at places t (freshTaskAt tb) (replicate places blankTask) noTask l l) ∙ held-shaped tb t;
-  queues = λ r l. ap (λ x. length (x .queue)) (getD-replicate places r blankResource noResource l);
-}
-
-pub refused-shaped : Shaped unusable
-refused-shaped = record {
-  servers = refl;
-  tasks = refl;
-  resources = refl;
-  stacks = λ t l. ap (λ k. length (k .held)) (getD-replicate places t blankTask noTask l);
   queues = λ r l. ap (λ x. length (x .queue)) (getD-replicate places r blankResource noResource l);
 }

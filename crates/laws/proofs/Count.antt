@@ -9,7 +9,7 @@ use Rattle.laws.specs.Tests.{if_then_else_, bit}
 use Rattle.laws.specs.Loops.{countTo, sumTo}
 use lib.Dec.{eqb}
 use borrow.Author.Tests.{eqb-true, eq-eqb, ne-eqb}
-use Rattle.laws.proofs.Cases.{split}
+use Rattle.laws.proofs.Cases.{split, unheld-fails}
 use Rattle.laws.proofs.Fold.{turns-done}
 use Rattle.laws.proofs.Sum.{sum-ext, sum-le, sum-zero, sum-at, sum-but-one}
 
@@ -85,3 +85,23 @@ count-one-same n i j p one l m a b =
     let h : bit (but i p i) ≡ 0 = rw (eq-eqb i i refl) in
     let k : 1 ≤ countTo n (but i p) = count-some n j (but i p) m (rw e b) in
     absurd (omega (arith, ap bit a, count-but-one n i p (but i p) l (λ x y q. rw (ne-eqb x i q)))))
+
+-- what holds at no two places holds at most once
+pub count-once : (n : ℕ) (p : ℕ → Bool) → ((i j : ℕ) → i < j → j < n → p i ≡ true → p j ≡ true → ⊥) → countTo n p ≤ 1
+unfolding countTo
+count-once zero p h = omega arith
+count-once (suc n) p h =
+    split
+    (p n)
+    (λ y. rw y (omega (arith, count-zero n p (λ i l. unheld-fails (p i) (λ e. h i n l (omega arith) e y)))))
+    (λ f. rw f (omega (arith, count-once n p (λ i j l m. h i j l (omega arith)))))
+
+-- what is counted holds somewhere
+pub count-found : (n : ℕ) (p : ℕ → Bool) → 1 ≤ countTo n p → (i : ℕ) × (i < n) × (p i ≡ true)
+unfolding countTo
+count-found zero p h = absurd (omega arith)
+count-found (suc n) p h =
+    split
+    (p n)
+    (λ y. (n, omega arith, y))
+    (λ f. let r = count-found n p (omega (arith, ap bit f)) in (r .0, omega (arith, r .1), r .2))

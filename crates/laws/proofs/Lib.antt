@@ -6,6 +6,7 @@ pub mod Sum
 pub mod Count
 pub mod Lists
 pub mod Set
+pub mod Making
 pub mod Best
 pub mod Join
 pub mod Pigeonhole

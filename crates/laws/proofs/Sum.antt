@@ -1,10 +1,14 @@
 -- Laws of `sumTo`. A law named none, more or done is a loop's, the value first. Assumes nothing.
-use mathlib.Core.Path.{_≡_, refl, ap₂}
+use mathlib.Core.Path.{_≡_, refl, sym, ap, ap₂, _∙_}
 use mathlib.Core.Logic.{⊎-elim}
 use Prim.Native.Nat.{ℕ, zero, suc, _+_, _<_, _≤_}
 use native.Mathlib.Numerals.{add-one}
 use native.Mathlib.Omega.{arith}
+use lib.Dec.{ltb}
+use borrow.Author.Tests.{lt-ltb, ltb-true, ltb-false}
+use Rattle.laws.specs.Tests.{bit}
 use Rattle.laws.specs.Loops.{sumTo}
+use Rattle.laws.proofs.Cases.{split}
 use Rattle.laws.proofs.Fold.{turns-done, last-or-below}
 
 pub sum-none : (f : ℕ → ℕ) → 0 ≡ sumTo 0 f
@@ -60,3 +64,39 @@ sum-but-one (suc n) i f g l h =
 -- where only one summand is not 0, the sum is that one
 pub sum-one : (n i : ℕ) (f : ℕ → ℕ) → i < n → ((j : ℕ) → j < n → (j ≡ i → ⊥) → f j ≡ 0) → sumTo n f ≡ f i
 sum-one n i f l h = omega (arith, sum-but-one n i f (λ j. 0) l h, sum-zero n (λ j. 0) (λ j m. refl))
+
+-- a sum of sums, either way round
+pub sum-swap : (n m : ℕ) (f : ℕ → ℕ → ℕ) → sumTo n (λ i. sumTo m (f i)) ≡ sumTo m (λ j. sumTo n (λ i. f i j))
+unfolding sumTo
+sum-swap zero m f = sym (sum-zero m (λ j. 0) (λ j l. refl))
+sum-swap (suc n) m f =
+    ap (λ k. k + sumTo m (f n)) (sum-swap n m f) ∙ sym (sum-add m (λ j. sumTo n (λ i. f i j)) (f n))
+
+-- where each summand is at most another's and the sums are not less, the summands are equal
+pub sum-pinched : (n : ℕ) (f g : ℕ → ℕ) → ((i : ℕ) → i < n → f i ≤ g i) → sumTo n g ≤ sumTo n f → (i : ℕ) → i < n → f i ≡ g i
+unfolding sumTo
+sum-pinched zero f g h s i l = absurd (omega arith)
+sum-pinched (suc n) f g h s i l =
+    let last = h n (omega arith) in
+    let rest = sum-le n f g (λ j m. h j (omega arith)) in
+    ⊎-elim
+    (λ (e : i ≡ n). rw e (omega arith))
+    (λ (e : i < n). sum-pinched n f g (λ j m. h j (omega arith)) (omega arith) i e)
+    (last-or-below i n l)
+
+-- so many numbers are below m
+pub sum-below : (n m : ℕ) → m ≤ n → sumTo n (λ j. bit (ltb j m)) ≡ m
+unfolding sumTo
+sum-below zero m l = omega arith
+sum-below (suc n) m l =
+    split
+    (ltb n m)
+    (λ y.
+    let e : m ≡ suc n = omega (arith, ltb-true n m y) in
+    rw y
+    (omega (
+      arith,
+      sum-ext n (λ j. bit (ltb j m)) (λ j. bit (ltb j n)) (λ j k. ap bit (lt-ltb j m (omega arith) ∙ sym (lt-ltb j n k))),
+      sum-below n n (omega arith),
+    )))
+    (λ f. rw f (omega (arith, sum-below n m (ltb-false n m f))))

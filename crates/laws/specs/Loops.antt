@@ -4,7 +4,7 @@ use mathlib.Core.Bool.{Bool, true, _&&_}
 use mathlib.Core.List.{List, [], _++_}
 use Prim.Native.Nat.{ℕ, zero, suc, _+_}
 use lib.Dec.{ltb}
-use lib.ListN.{set}
+use lib.ListN.{set, replicate}
 use Rattle.laws.specs.Tests.{if_then_else_, bit}
 
 -- how many of p 0 .. p (n - 1) hold
@@ -27,6 +27,10 @@ module _ {ℓ} {A : Type ℓ} where
   unfoldable pub setTo : ℕ → (ℕ → A) → List A → List A
   setTo zero f xs = xs
   setTo (suc n) f xs = set (setTo n f xs) n (f n)
+
+  -- an array of n places with f i at each place i, which was `blank` before
+  abbrev pub madeBy : ℕ → (ℕ → A) → A → List A
+  madeBy n f blank = setTo n f (replicate n blank)
 
   -- f 0, then f 1, .. up to f (n - 1), done to a
   unfoldable pub foldTo : ℕ → (ℕ → A → A) → A → A

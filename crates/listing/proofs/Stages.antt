@@ -37,7 +37,8 @@ use Rattle.listing.specs.Listing.{beginning, stopLine, started}
 use Rattle.listing.specs.Computed.{textFrom, countsAlone, unreadNumber, refusalNumber, running}
 use Rattle.listing.proofs.Texts.{text-refused, text-counts, text-entry}
 use Rattle.listing.proofs.Otherwise.{table-unread, not-counts, not-entry}
-use Rattle.listing.proofs.Tables.{Entered, counts-fit, counts-tasks, counts-tested, entered-none, entered-more, entry-tested, fresh-refused, fresh-made, whole-accepted}
+use Rattle.fresh.proofs.Refusals.{counts-fit}
+use Rattle.listing.proofs.Tables.{Entered, counts-tasks, counts-tested, entered-none, entered-more, entry-tested, fresh-refused, fresh-made, whole-accepted}
 use Rattle.listing.proofs.SoFar.{running-is}
 
 module _ (file : List ℕ) where

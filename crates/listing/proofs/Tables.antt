@@ -14,8 +14,7 @@ use lib.Seq.{getD-set-same, getD-set-other}
 use borrow.Author.Tests.{lt-ltb, le-ltb, ltb-true}
 use Rattle.laws.specs.Tests.{firstOf}
 use Rattle.laws.specs.Loops.{foldTo}
-use Rattle.laws.proofs.Cases.{split, unfailed-holds, none-some, or-none}
-use Rattle.laws.proofs.Reflect.{Reflects, reflects-and, reflects-le}
+use Rattle.laws.proofs.Cases.{split, or-none}
 use Rattle.laws.proofs.Fold.{fold-keeps, last-or-below}
 use Rattle.model.specs.declared.Entry.{Entry}
 use Rattle.model.specs.declared.Table.{Table}
@@ -23,6 +22,8 @@ use Rattle.model.specs.declared.FreshAnswer.the-variants.{Made, Refused}
 use Rattle.model.specs.State.{places}
 use Rattle.model.specs.Sound.{countsFit}
 use Rattle.model.specs.Fresh.{noEntry, entryAt, countsRefusal, entryRefusal, taskRefusal, freshRefusal, freshState, freshBy, freshOf}
+use Rattle.model.proofs.Sound.{counts-fact}
+use Rattle.fresh.proofs.Refusals.{refused-stays, counts-refused, counts-accepted}
 use Rattle.trace.specs.Order.{countedTable, withEntry}
 use Rattle.listing.specs.Computed.{blameless, countsAlone}
 
@@ -30,17 +31,10 @@ use Rattle.listing.specs.Computed.{blameless, countsAlone}
 abbrev pub first : ℕ → Table → Table
 first k tb = record { processors = tb .processors; tasks = k; resources = tb .resources; entry = tb .entry }
 
-counts-fact : (p t r : ℕ) → Reflects (countsFit p t r) (((((1 ≤ p) × (p ≤ 8)) × (1 ≤ t)) × (t ≤ 16)) × (r ≤ 16))
-counts-fact p t r = reflects-and (reflects-and (reflects-and (reflects-and (reflects-le _ _) (reflects-le _ _)) (reflects-le _ _)) (reflects-le _ _)) (reflects-le _ _)
-
 pub counts-tasks : (p t r : ℕ) → countsFit p t r ≡ true → (1 ≤ t) × (t ≤ places)
 counts-tasks p t r e = let f = counts-fact p t r .holds e in (f .0 .0 .1, f .0 .1)
 
 -- what was refused stays refused, and what no task refuses is not refused
-refused-stays : (tb : Table) (n m : ℕ) → foldTo n (taskRefusal tb) (some m) ≡ some m
-unfolding taskRefusal
-refused-stays tb n m = fold-keeps (λ x. x ≡ some m) (taskRefusal tb) n (λ i l x p. rw p) (some m) refl
-
 none-refused
     : (tb : Table) (n : ℕ) → ((i : ℕ) → i < n → i < tb .tasks → entryRefusal (tb .resources) (entryAt tb i) ≡ none)
     → foldTo n (taskRefusal tb) none ≡ none
@@ -50,18 +44,7 @@ none-refused tb n h =
     (λ i l x p. rw p (split (ltb i (tb .tasks)) (λ y. rw y (h i l (ltb-true _ _ y))) (λ y. rw y)))
     none refl
 
--- the test of the counts
-counts-refused : (tb : Table) → countsFit (tb .processors) (tb .tasks) (tb .resources) ≡ false → countsRefusal tb ≡ some 19
-unfolding countsRefusal firstOf
-counts-refused tb e = rw e
-
-pub counts-accepted : (tb : Table) → countsFit (tb .processors) (tb .tasks) (tb .resources) ≡ true → countsRefusal tb ≡ none
-unfolding countsRefusal firstOf
-counts-accepted tb e = rw e
-
-pub counts-fit : (tb : Table) → countsRefusal tb ≡ none → countsFit (tb .processors) (tb .tasks) (tb .resources) ≡ true
-counts-fit tb e = unfailed-holds _ (λ n. none-some (sym e ∙ counts-refused tb n))
-
+-- the test of the counts alone
 blameless-accepted : (r : ℕ) → entryRefusal r blameless ≡ none
 unfolding entryRefusal firstOf
 blameless-accepted r = rw (lt-ltb 0 (2 ^ r) (pow-pos r))

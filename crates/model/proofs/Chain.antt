@@ -9,7 +9,7 @@ use borrow.Author.Tests.{ltb-true, ltb-false, le-ltb}
 use Rattle.laws.specs.Tests.{if_then_else_}
 use Rattle.laws.specs.Links.{hop, walk, Leads}
 use Rattle.laws.proofs.Cases.{split, and-left, and-right}
-use Rattle.laws.proofs.Pigeonhole.{walk-ended, walk-linked, walk-more, walk-below, ended-open, closed-or-ended}
+use Rattle.laws.proofs.Pigeonhole.{walk-ended, walk-linked, walk-more, ended-open, closed-or-ended}
 use Rattle.model.specs.declared.State.{State}
 use Rattle.model.specs.State.{places, nobody, taskAt, resourceAt, awaited, ownerNo, here, present, ownerOf, next, chainEnd, served}
 
@@ -107,32 +107,40 @@ end-is st t o =
     (λ y. rw y (end-owner st t o (ltb-true _ _ y)))
     (λ n. rw n (end-itself st t (ltb-false _ _ n)))
 
--- the same links, the same ends
-same-end : (a b : State) → ((t : ℕ) → next a t ≡ next b t) → (left t : ℕ) → chainEnd left a t ≡ chainEnd left b t
-unfolding chainEnd
-same-end a b same zero t = refl
-same-end a b same (suc left) t = rw (same t, same-end a b same left (next b t))
+-- what each link keeps, the chain end keeps
+module _ (P : ℕ → Type 0) (a : State) (keeps : (t : ℕ) → P t → next a t < places → P (next a t)) where
+  end-keeps : (left t : ℕ) → P t → P (chainEnd left a t)
+  unfolding chainEnd
+  end-keeps zero t p = p
+  end-keeps (suc left) t p =
+      split (ltb (next a t) places) (λ y. rw y (end-keeps left (next a t) (keeps t p (ltb-true _ _ y)))) (λ n. rw n p)
+
+  pub served-keeps : (t : ℕ) → P t → P (served a t)
+  unfolding served
+  served-keeps t p = end-keeps places t p
+
+  -- and the same links have the same ends
+  module _ (b : State) (same : (t : ℕ) → P t → next a t ≡ next b t) where
+    same-end : (left t : ℕ) → P t → chainEnd left a t ≡ chainEnd left b t
+    unfolding chainEnd
+    same-end zero t p = refl
+    same-end (suc left) t p =
+        rw (← (same t p))
+        (split (ltb (next a t) places) (λ y. rw y (same-end left (next a t) (keeps t p (ltb-true _ _ y)))) (λ n. rw n refl))
+
+    pub same-among : (t : ℕ) → P t → served a t ≡ served b t
+    unfolding served
+    same-among t p = same-end places t p
 
 pub same-served : (a b : State) → ((t : ℕ) → next a t ≡ next b t) → (t : ℕ) → served a t ≡ served b t
-unfolding served
-same-served a b same t = same-end a b same places t
+same-served a b same t = same-among (λ x. Unit {0}) a (λ x p l. p) b (λ x p. same x) t tt
 
 -- the end of a number below sixteen is below sixteen, and of a number in use is in use
 pub served-below : (st : State) (t : ℕ) → t < places → served st t < places
-served-below st t l = rw (served-walk st t) (walk-below places (next st) places t l)
-
-end-here : (left : ℕ) (st : State) (t : ℕ) → here st t ≡ true → here st (chainEnd left st t) ≡ true
-unfolding chainEnd
-end-here zero st t h = h
-end-here (suc left) st t h =
-    split
-    (ltb (next st t) places)
-    (λ y. rw y (end-here left st (next st t) (next-here st t (ltb-true _ _ y))))
-    (λ n. rw n h)
+served-below st = served-keeps (λ x. x < places) st (λ x p l. l)
 
 pub served-here : (st : State) (t : ℕ) → here st t ≡ true → here st (served st t) ≡ true
-unfolding served
-served-here st t h = end-here places st t h
+served-here st = served-keeps (λ x. here st x ≡ true) st (λ x p l. next-here st x l)
 
 -- rule 4.12, no chain closes: no task is reached again from itself in one link or more
 abbrev pub Unclosed : State → Type 0

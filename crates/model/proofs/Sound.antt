@@ -12,7 +12,7 @@ use Rattle.laws.specs.Loops.{countTo, allTo}
 use Rattle.laws.proofs.Reflect.{Reflects, reflects-self, reflects-le, reflects-lt, reflects-eq, reflects-change, reflects-not, reflects-and, reflects-or, reflects-implies, reflects-iff, reflects-all}
 use Rattle.model.specs.declared.State.{State}
 use Rattle.model.specs.State.{places, serverAt, taskAt, resourceAt, here, present, declares, idle, recharging, suspended, waiting, awaited, owned, ownerNo, placed, placeNo, served, runningAt, runningFor}
-use Rattle.model.specs.Sound.{ifHere, each, ifPresent, eachResource, clockLimit, sizesFit, reservationFits, declarationFits, deadlineFits, budgetFits, emptyRecharges, seated, heldAt, queuedAt, stackPlaceFits, stackFits, queuePlaceFits, queueFits, ownerFits, waitFits, stackAgrees, queueAgrees, entriesAgree, unownedUnqueued, usedDeclared, allDeclared, chainOpen, idleFits, executorFits, servedExecutes, accountsFit, loose, sound}
+use Rattle.model.specs.Sound.{ifHere, each, ifPresent, eachResource, countsFit, quotaFits, clockLimit, sizesFit, reservationFits, declarationFits, deadlineFits, budgetFits, emptyRecharges, seated, heldAt, queuedAt, stackPlaceFits, stackFits, queuePlaceFits, queueFits, ownerFits, waitFits, stackAgrees, queueAgrees, entriesAgree, unownedUnqueued, usedDeclared, allDeclared, chainOpen, idleFits, executorFits, servedExecutes, accountsFit, loose, sound}
 use Rattle.model.proofs.Chain.{here-below, present-below, Open}
 
 -- of each task and server in use; of each resource in use
@@ -43,18 +43,39 @@ pub each-resource-fact
 unfolding eachResource ifPresent
 each-resource-fact st p P r = each-by (present st) _ P (present-below st) (λ i. reflects-implies (reflects-self (present st i)) (r i))
 
+-- the limits that a table and a state share: counts, and a quota with its period
+abbrev pub Counts : ℕ → ℕ → ℕ → Type 0
+Counts processors tasks resources = ((((1 ≤ processors) × (processors ≤ 8)) × (1 ≤ tasks)) × (tasks ≤ 16)) × (resources ≤ 16)
+
+pub counts-fact : (processors tasks resources : ℕ) → Reflects (countsFit processors tasks resources) (Counts processors tasks resources)
+counts-fact processors tasks resources =
+    reflects-and (reflects-and (reflects-and (reflects-and (reflects-le _ _) (reflects-le _ _)) (reflects-le _ _)) (reflects-le _ _)) (reflects-le _ _)
+
+abbrev pub Quota : ℕ → ℕ → Type 0
+Quota quota period = (1 ≤ quota) × (quota ≤ period) × (period ≤ 1000000)
+
+pub quota-fact : (quota period : ℕ) → Reflects (quotaFits quota period) (Quota quota period)
+quota-fact quota period =
+    reflects-change
+    (reflects-and (reflects-and (reflects-le _ _) (reflects-le _ _)) (reflects-le _ _))
+    (λ h. (h .0 .0, h .0 .1, h .1))
+    (λ h. ((h .0, h .1), h .2))
+
+abbrev pub Sizes : State → Type 0
+Sizes st = Counts (st .processors) (st .tasks) (st .resources) × (st .clock ≤ clockLimit)
+
+pub sizes-fact : (st : State) → Reflects (sizesFit st) (Sizes st)
+unfolding sizesFit
+sizes-fact st = reflects-and (counts-fact (st .processors) (st .tasks) (st .resources)) (reflects-le _ _)
+
 module _ (st : State) (i : ℕ) where
   -- rule 1.4
   abbrev pub Reservation : Type 0
-  Reservation = (1 ≤ serverAt st i .quota) × (serverAt st i .quota ≤ serverAt st i .period) × (serverAt st i .period ≤ 1000000)
+  Reservation = Quota (serverAt st i .quota) (serverAt st i .period)
 
   pub reservation-fact : Reflects (reservationFits st i) Reservation
   unfolding reservationFits
-  reservation-fact =
-      reflects-change
-      (reflects-and (reflects-and (reflects-le _ _) (reflects-le _ _)) (reflects-le _ _))
-      (λ h. (h .0 .0, h .0 .1, h .1))
-      (λ h. ((h .0, h .1), h .2))
+  reservation-fact = quota-fact (serverAt st i .quota) (serverAt st i .period)
 
   abbrev pub Declaration : Type 0
   Declaration = taskAt st i .declared < 2 ^ st .resources
@@ -185,17 +206,6 @@ module _ (st : State) (i : ℕ) where
       (reflects-le (serverAt st i .own + serverAt st i .lent + serverAt st i .spin) (st .clock)))
       (λ h. (h .0 .1, h .1))
       (λ h. ((((omega arith, omega arith), omega arith), h .0), h .1))
-
-abbrev Sizes : State → Type 0
-Sizes st =
-    (((((1 ≤ st .processors) × (st .processors ≤ 8)) × (1 ≤ st .tasks)) × (st .tasks ≤ 16)) × (st .resources ≤ 16)) × (st .clock ≤ clockLimit)
-
-sizes-fact : (st : State) → Reflects (sizesFit st) (Sizes st)
-unfolding sizesFit
-sizes-fact st =
-    reflects-and
-    (reflects-and (reflects-and (reflects-and (reflects-and (reflects-le _ _) (reflects-le _ _)) (reflects-le _ _)) (reflects-le _ _)) (reflects-le _ _))
-    (reflects-le _ _)
 
 -- the facts, one for each named test, in its order
 pub record Loose (st : State) : Type 0 where

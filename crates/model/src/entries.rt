@@ -103,13 +103,13 @@ pub fn is_suspended(m: Mode) -> bool
 }
 
 // The resource that a task in this mode waits for, or nobody.
-pub fn awaited_no(m: Mode) -> usize
+pub fn awaited_no(m: Mode) -> u16
     ensures { λ r. ⌜ r ≡ awaited m ⌝ }
 {
     match m {
-        Mode::Suspended => NOBODY as usize,
-        Mode::Ready => NOBODY as usize,
-        Mode::Waiting(r) => r as usize,
+        Mode::Suspended => NOBODY,
+        Mode::Ready => NOBODY,
+        Mode::Waiting(r) => r,
     }
 }
 

@@ -11,9 +11,10 @@ use Rattle.fresh.proofs.start.fresh.Reads as Fresh
 use Rattle.settle.proofs.query.executing.Reads as Executing
 use Rattle.chain.proofs.walk.chain_end.Reads as ChainEnd
 use Rattle.chain.proofs.walk.chain_ends.Reads as ChainEnds
-use Rattle.chain.proofs.walk.ends.Reads as Ends
+use Rattle.chain.proofs.walk.ends_by.Reads as EndsBy
 use Rattle.chain.proofs.links.owners.Reads as Owners
-use Rattle.chain.proofs.links.nexts.Reads as Nexts
+use Rattle.chain.proofs.links.wanted.Reads as Wanted
+use Rattle.chain.proofs.links.numbers.Reads as Numbers
 use Rattle.chain.proofs.links.at_or_nobody.Reads as AtOrNobody
 use Rattle.chain.proofs.servers.executors.Reads as Executors
 use Rattle.chain.proofs.servers.running_for.Reads as RunningFor
@@ -63,6 +64,8 @@ use Rattle.model.proofs.entries.awaited_no.Reads as AwaitedNo
 use Rattle.model.proofs.entries.is_owned.Reads as IsOwned
 use Rattle.model.proofs.entries.owner_no.Reads as OwnerNo
 use Rattle.model.proofs.entries.is_placed.Reads as IsPlaced
+use Rattle.model.proofs.limits.counts_fit.Reads as CountsFit
+use Rattle.model.proofs.limits.quota_fits.Reads as QuotaFits
 use Rattle.model.proofs.entries.both.Reads as Both
 use Rattle.model.proofs.entries.either.Reads as Either
 use Rattle.model.proofs.entries.one_if.Reads as OneIf
@@ -90,9 +93,10 @@ pub record EachUnique : Type 0 where
   pub chain-end : Unique ChainEnd.Post
   -- What is taken out of a state, and the first test that refuses an event.
   pub chain-ends : Unique ChainEnds.Post
-  pub ends : Unique Ends.Post
+  pub ends-by : Unique EndsBy.Post
   pub owners : Unique Owners.Post
-  pub nexts : Unique Nexts.Post
+  pub wanted : Unique Wanted.Post
+  pub numbers : Unique Numbers.Post
   pub at-or-nobody : Unique AtOrNobody.Post
   pub executors : Unique Executors.Post
   pub running-for : Unique RunningFor.Post
@@ -149,6 +153,8 @@ pub record EachUnique : Type 0 where
   pub is-owned : Unique IsOwned.Post
   pub owner-no : Unique OwnerNo.Post
   pub is-placed : Unique IsPlaced.Post
+  pub counts-fit : Unique CountsFit.Post
+  pub quota-fits : Unique QuotaFits.Post
   pub both : Unique Both.Post
   pub either : Unique Either.Post
   pub one-if : Unique OneIf.Post

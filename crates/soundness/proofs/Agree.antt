@@ -9,10 +9,9 @@ use borrow.Author.Tests.{ltb-true, ltb-false, lt-ltb, le-ltb, eqb-true, eqb-fals
 use Rattle.laws.specs.Tests.{if_then_else_, bit}
 use Rattle.laws.specs.Loops.{countTo, sumTo}
 use Rattle.laws.proofs.Cases.{split, if-yes, if-no, holds-fails, unheld-fails, and-left, and-right, and-both}
-use Rattle.laws.proofs.Count.{count-sum, count-zero, count-some, count-one-same, bit-le}
-use Rattle.laws.proofs.Sum.{sum-ext, sum-zero, sum-one, sum-le}
+use Rattle.laws.proofs.Count.{count-sum, count-zero, count-some, count-once, count-one-same, bit-le}
+use Rattle.laws.proofs.Sum.{sum-ext, sum-zero, sum-one, sum-le, sum-swap, sum-pinched, sum-below}
 use Rattle.model.specs.State.{places}
-use Rattle.soundness.proofs.Sums.{sum-swap, sum-pinched, sum-below, count-once}
 
 module _ (size : ℕ → ℕ) (entry : ℕ → ℕ → ℕ) where
   -- place j of t is in use and has r

@@ -1,4 +1,4 @@
--- The tests of specs/Members.antt and specs/Groups.antt as facts, a law each way (`Reflects`). Assumes nothing.
+-- The tests of specs/Computed.antt as facts, a law each way (`Reflects`). Assumes nothing.
 use mathlib.Core.Path.{_≡_, refl, sym, ap, _∙_}
 use mathlib.Core.Bool.{Bool, true, false, not, _&&_, _||_, true≢false}
 use mathlib.Core.List.{List}
@@ -28,10 +28,10 @@ use Rattle.model.specs.State.{places, nobody, serverAt, taskAt, resourceAt, inU
 use Rattle.model.specs.Sound.{sizesFit}
 use Rattle.model.proofs.Chain.{here-below, served-below, Open, here-past}
 use Rattle.model.proofs.Sound.{Each, EachResource, each-fact, each-resource-fact}
-use Rattle.chain.specs.Arrays.{arrayOf, ownersOf, atOrNobody}
+use Rattle.chain.specs.Arrays.{arrayOf, runsFor}
+use Rattle.chain.specs.Computed.{atOrNobody}
 use Rattle.chain.proofs.Arrays.{array-at}
-use Rattle.soundness.specs.Members.{otherAt, memberAt, membersFit, numberAt, numbersOf, usedAt, usedIn}
-use Rattle.soundness.specs.Groups.{wanted, wantedOf, runsFor, runsForOf, waitPasses, taskPasses, taskPassesAt, depthAt, tasksPass, ownerPasses, everyBit, resourcePasses, resourcePassesAt, lengthAt, resourcesPass, serverFits, servesPasses, executesPasses, serverPassesAt, serversPass, passes}
+use Rattle.soundness.specs.Computed.{otherAt, memberAt, membersFit, usedAt, usedIn, waitPasses, ownerPasses, servesPasses, executesPasses}
 
 -- the first `count` places of xs are the holder's, in the set, each number once
 abbrev pub Members : List ℕ → ℕ → ℕ → List ℕ → ℕ → Type 0
@@ -52,20 +52,7 @@ members-fact xs count set owners holder =
     (reflects-and (reflects-eq _ _) (reflects-self _))
     (reflects-all j _ _ (λ k m. reflects-not (reflects-eq _ _)))))
 
--- a number of a queue, read off the array of its numbers
-pub number-at : (queue : List TaskNo) (j : ℕ) → j < places → getD (numbersOf queue) j 0 ≡ getD queue j (record { 0 = 0 }) .0
-unfolding numbersOf numberAt
-number-at queue j l = set-at places j (numberAt queue) (replicate places 0) 0 l l
-
--- an array of numbers read at any place, and counted
-pub array-any : (f : ℕ → ℕ) → ((i : ℕ) → places ≤ i → f i ≡ nobody) → (i : ℕ) → atOrNobody (arrayOf f) i ≡ f i
-unfolding atOrNobody
-array-any f past i =
-    split
-    (ltb i places)
-    (λ y. rw y (array-at f i (ltb-true i places y)))
-    (λ n. rw n (sym (past i (ltb-false i places n))))
-
+-- an array of numbers, counted
 pub used-count : (f : ℕ → ℕ) → usedIn (arrayOf f) ≡ countTo places (λ i. ltb (f i) places)
 unfolding usedIn usedAt
 used-count f = count-ext places (usedAt (arrayOf f)) (λ i. ltb (f i) places) (λ i l. ap (λ x. ltb x places) (array-at f i l))
@@ -73,17 +60,9 @@ used-count f = count-ext places (usedAt (arrayOf f)) (λ i. ltb (f i) places) (�
 pub used-sum : (f : ℕ → ℕ) → usedIn (arrayOf f) ≡ sumTo places (λ i. bit (ltb (f i) places))
 used-sum f = used-count f ∙ count-sum places (λ i. ltb (f i) places)
 
-pub wanted-past : (st : State) (t : ℕ) → places ≤ t → wanted st t ≡ nobody
-unfolding wanted
-wanted-past st t l = rw (here-past st t l)
-
-pub runs-for-past : (st : State) (s : ℕ) → places ≤ s → runsFor st s ≡ nobody
-unfolding runsFor runningAt
-runs-for-past st s l = rw (here-past st s l)
-
 -- a server counts in the array exactly when it runs
-pub seats-count : (st : State) → usedIn (runsForOf st) ≡ countTo places (runningAt st)
-unfolding runsForOf runsFor
+pub seats-count : (st : State) → usedIn (arrayOf (runsFor st)) ≡ countTo places (runningAt st)
+unfolding runsFor
 seats-count st = used-count (runsFor st) ∙ count-ext places _ (runningAt st) counts
   where
     counts : (s : ℕ) → s < places → ltb (runsFor st s) places ≡ runningAt st s

@@ -1,4 +1,3 @@
-pub mod Sums
 pub mod Agree
 pub mod Facts
 pub mod Passed

@@ -9,12 +9,11 @@ use Rattle.laws.specs.Loops.{sumTo}
 use Rattle.laws.proofs.Reflect.{Reflects, reflects-self, reflects-le, reflects-lt, reflects-eq, reflects-change, reflects-and, reflects-iff}
 use Rattle.model.specs.declared.State.{State}
 use Rattle.model.specs.State.{places, serverAt, taskAt, resourceAt, here, present, declares, running, waiting, awaited, owned, placed, placeNo, ownerOf, served}
-use Rattle.model.specs.Sound.{clockLimit, sizesFit}
 use Rattle.model.proofs.Chain.{Open}
-use Rattle.model.proofs.Sound.{Each, EachResource, each-fact, each-resource-fact, Reservation, Declaration, Deadline, Budget, Empty, Idles, Seated}
-use Rattle.chain.specs.Arrays.{ownersOf, atOrNobody}
-use Rattle.soundness.specs.Members.{numbersOf, usedIn}
-use Rattle.soundness.specs.Groups.{wanted, wantedOf, runsFor, runsForOf, taskPasses, taskPassesAt, depthAt, tasksPass, everyBit, resourcePasses, resourcePassesAt, lengthAt, resourcesPass, serverPasses, serverPassesAt, serversPass, passes}
+use Rattle.model.proofs.Sound.{Each, EachResource, each-fact, each-resource-fact, Reservation, Declaration, Deadline, Budget, Empty, Idles, Seated, quota-fact, Sizes, sizes-fact}
+use Rattle.chain.specs.Arrays.{arrayOf, wanted, wantedOf, runsFor}
+use Rattle.chain.specs.Computed.{numbersOf, atOrNobody}
+use Rattle.soundness.specs.Computed.{usedIn, taskPasses, taskPassesAt, depthAt, tasksPass, everyBit, resourcePasses, resourcePassesAt, lengthAt, resourcesPass, serverPasses, serverPassesAt, serversPass, passes}
 use Rattle.soundness.proofs.Agree.{Totals}
 use Rattle.soundness.proofs.Facts.{Members, members-fact, used-sum, seats-count, wait-fact, serves-fact, executes-fact, owner-fact}
 
@@ -26,7 +25,7 @@ module _ (st : State) (i : ℕ) where
       (present st (awaited (taskAt st i .mode)) ≡ true) × (declares st i (awaited (taskAt st i .mode)) ≡ true)
 
   abbrev pub Stack : Type 0
-  Stack = Members (taskAt st i .held) (taskAt st i .depth) (taskAt st i .declared) (ownersOf st) i
+  Stack = Members (taskAt st i .held) (taskAt st i .depth) (taskAt st i .declared) (arrayOf (ownerOf st)) i
 
   pub record TaskFacts : Type 0 where
     pub executed : taskAt st i .executed ≤ st .clock
@@ -42,7 +41,7 @@ module _ (st : State) (i : ℕ) where
       (reflects-and
       (reflects-and (reflects-le _ _) (reflects-lt _ _))
       (wait-fact (st .resources) (taskAt st i .declared) (taskAt st i .mode)))
-      (members-fact (taskAt st i .held) (taskAt st i .depth) (taskAt st i .declared) (ownersOf st) i))
+      (members-fact (taskAt st i .held) (taskAt st i .depth) (taskAt st i .declared) (arrayOf (ownerOf st)) i))
       (λ h. record { executed = h .0 .0 .0; declaration = h .0 .0 .1; waits = h .0 .1; stack = h .1 })
       (λ h. (((h .executed, h .declaration), h .waits), h .stack))
 
@@ -70,7 +69,7 @@ module _ (st : State) (i : ℕ) where
     pub opens : Open st i
     pub serves : running (serverAt st i .phase) ≡ true → placed (taskAt st (served st i) .runs) ≡ true
     pub idles : Idles st i
-    pub executor : placed (taskAt st i .runs) ≡ true → atOrNobody (runsForOf st) (placeNo (taskAt st i .runs)) ≡ i
+    pub executor : placed (taskAt st i .runs) ≡ true → atOrNobody (arrayOf (runsFor st)) (placeNo (taskAt st i .runs)) ≡ i
 
   server-facts : Reflects (serverPassesAt st i) ServerFacts
   unfolding serverPassesAt serverPasses
@@ -83,16 +82,16 @@ module _ (st : State) (i : ℕ) where
       (reflects-and
       (reflects-and
       (reflects-and
-      (reflects-and (reflects-and (reflects-le _ _) (reflects-le _ _)) (reflects-le _ _))
+      (quota-fact (serverAt st i .quota) (serverAt st i .period))
       (reflects-le _ _))
       (reflects-le _ _))
       (reflects-iff (reflects-eq _ _) (reflects-self _)))
       (reflects-le _ _))
       (reflects-le _ _))
       (serves-fact (serverAt st i .phase) (taskAt st (served st i) .mode) (taskAt st (served st i) .runs)))
-      (executes-fact (runsForOf st) i (taskAt st i .runs)))
+      (executes-fact (arrayOf (runsFor st)) i (taskAt st i .runs)))
       (λ h. record {
-        reservation = (h .0 .0 .0 .0 .0 .0 .0 .0 .0, h .0 .0 .0 .0 .0 .0 .0 .0 .1, h .0 .0 .0 .0 .0 .0 .0 .1);
+        reservation = h .0 .0 .0 .0 .0 .0 .0;
         deadline = h .0 .0 .0 .0 .0 .0 .1;
         budget = h .0 .0 .0 .0 .0 .1;
         empty = h .0 .0 .0 .0 .1;
@@ -103,7 +102,7 @@ module _ (st : State) (i : ℕ) where
         executor = h .1;
       })
       (λ h.
-      (((((((((h .reservation .0, h .reservation .1), h .reservation .2), h .deadline), h .budget), h .empty), h .accounts), h .opens), (h .serves, h .idles)), h .executor))
+      (((((((h .reservation, h .deadline), h .budget), h .empty), h .accounts), h .opens), (h .serves, h .idles)), h .executor))
 
 -- stacks and queues as holders of items: how many entries, and which
 abbrev pub depth : State → ℕ → ℕ
@@ -118,27 +117,16 @@ waiters st r = resourceAt st r .waiting
 abbrev pub queued : State → ℕ → ℕ → ℕ
 queued st r j = getD (resourceAt st r .queue) j (record { 0 = 0 }) .0
 
-abbrev pub Sizes : State → Type 0
-Sizes st =
-    (((((1 ≤ st .processors) × (st .processors ≤ 8)) × (1 ≤ st .tasks)) × (st .tasks ≤ 16)) × (st .resources ≤ 16)) × (st .clock ≤ clockLimit)
-
-pub sizes-fact : (st : State) → Reflects (sizesFit st) (Sizes st)
-unfolding sizesFit
-sizes-fact st =
-    reflects-and
-    (reflects-and (reflects-and (reflects-and (reflects-and (reflects-le _ _) (reflects-le _ _)) (reflects-le _ _)) (reflects-le _ _)) (reflects-le _ _))
-    (reflects-le _ _)
-
 -- the totals, and the seats
-depths-fact : (st : State) → Reflects (eqb (sumTo places (depthAt st)) (usedIn (ownersOf st))) (Totals (here st) (ownerOf st) (depth st))
-unfolding depthAt ownersOf
+depths-fact : (st : State) → Reflects (eqb (sumTo places (depthAt st)) (usedIn (arrayOf (ownerOf st)))) (Totals (here st) (ownerOf st) (depth st))
+unfolding depthAt
 depths-fact st = rw (used-sum (ownerOf st)) (reflects-eq _ _)
 
 lengths-fact : (st : State) → Reflects (eqb (sumTo places (lengthAt st)) (usedIn (wantedOf st))) (Totals (present st) (wanted st) (waiters st))
 unfolding lengthAt wantedOf
 lengths-fact st = rw (used-sum (wanted st)) (reflects-eq _ _)
 
-seats-fact : (st : State) → Reflects (leb (usedIn (runsForOf st)) (st .processors)) (Seated st)
+seats-fact : (st : State) → Reflects (leb (usedIn (arrayOf (runsFor st))) (st .processors)) (Seated st)
 seats-fact st = rw (seats-count st) (reflects-le _ _)
 
 -- all that the code tests

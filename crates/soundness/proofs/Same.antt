@@ -11,18 +11,18 @@ use Rattle.laws.specs.Tests.{if_then_else_, bit}
 use Rattle.laws.specs.Loops.{countTo, allTo}
 use Rattle.laws.proofs.Cases.{split, if-yes, tests-same, and-left, and-right, and-both}
 use Rattle.laws.proofs.All.{all-at}
+use Rattle.laws.proofs.Count.{count-found}
 use Rattle.model.specs.declared.State.{State}
 use Rattle.model.specs.State.{places, nobody, taskAt, resourceAt, inSet, here, present, declares, awaited, ownerNo, placed, placeNo, running, serverAt, ownerOf, served, runningAt, runningFor, waiting, owned}
 use Rattle.model.specs.Sound.{heldAt, queuedAt, sound}
 use Rattle.model.proofs.Chain.{here-below, present-below, owner-here, owner-past}
 use Rattle.model.proofs.Sound.{Each, Wait, Loose, Sound, sound-facts, Agree, Declared, Owned, Executor}
-use Rattle.chain.specs.Arrays.{ownersOf, atOrNobody}
-use Rattle.chain.proofs.Arrays.{owner-is}
-use Rattle.soundness.specs.Members.{numbersOf}
-use Rattle.soundness.specs.Groups.{wanted, wantedOf, runsFor, runsForOf, everyBit, passes}
-use Rattle.soundness.proofs.Sums.{count-found}
+use Rattle.chain.specs.Arrays.{arrayOf, wanted, wantedOf, runsFor}
+use Rattle.chain.specs.Computed.{numbersOf, atOrNobody}
+use Rattle.chain.proofs.Arrays.{owner-is, wanted-is, runs-for-is, number-at}
+use Rattle.soundness.specs.Computed.{everyBit, passes}
 use Rattle.soundness.proofs.Agree.{times, hasAt, has-below, has-entry, Own, Totals, Fits, Once, own-fits, own-once, fits-own, fits-totals}
-use Rattle.soundness.proofs.Facts.{Members, number-at, array-any, wanted-past, runs-for-past, awaited-waiting}
+use Rattle.soundness.proofs.Facts.{Members, awaited-waiting}
 use Rattle.soundness.proofs.Passed.{depth, held, waiters, queued, Waits, TaskFacts, ResourceFacts, ServerFacts, Passed, passed-facts}
 
 module _ (st : State) where
@@ -73,14 +73,6 @@ module _ (st : State) where
       let y = wanted-item t l m in
       let e = wanted-here t y in
       rw e (w t y (awaited-waiting (taskAt st t .mode) (rw e at m)))
-
-  wanted-is : (t : ℕ) → atOrNobody (wantedOf st) t ≡ wanted st t
-  unfolding wantedOf
-  wanted-is t = array-any (wanted st) (wanted-past st) t
-
-  runs-for-is : (s : ℕ) → atOrNobody (runsForOf st) s ≡ runsFor st s
-  unfolding runsForOf
-  runs-for-is s = array-any (runsFor st) (runs-for-past st) s
 
 -- what passes is sound
 module _ (st : State) (h : Passed st) where
@@ -224,7 +216,7 @@ module _ (st : State) (s : Sound st) where
   queue-own =
       fits-own (present st) (here st) (wanted st) (waiters st) (queued st) (present-below st) (here-below st) waits-present (wanted-item st) (facts .queue) once-queue
 
-  stack-members : (t : ℕ) → here st t ≡ true → Members (taskAt st t .held) (depth st t) (taskAt st t .declared) (ownersOf st) t
+  stack-members : (t : ℕ) → here st t ≡ true → Members (taskAt st t .held) (depth st t) (taskAt st t .declared) (arrayOf (ownerOf st)) t
   unfolding declares
   stack-members t y =
       let o = stack-own t y in (
@@ -263,7 +255,7 @@ module _ (st : State) (s : Sound st) where
       let e : ownerOf st r ≡ n = eqb-true (ownerOf st r) n (sym (owner-same st r n p y) ∙ eq-eqb n n refl) in
       rw e (here-below st n y)
 
-  executor-runs : (t : ℕ) → here st t ≡ true → placed (taskAt st t .runs) ≡ true → atOrNobody (runsForOf st) (placeNo (taskAt st t .runs)) ≡ t
+  executor-runs : (t : ℕ) → here st t ≡ true → placed (taskAt st t .runs) ≡ true → atOrNobody (arrayOf (runsFor st)) (placeNo (taskAt st t .runs)) ≡ t
   unfolding runningFor runsFor
   executor-runs t y x =
       let n = placeNo (taskAt st t .runs) in

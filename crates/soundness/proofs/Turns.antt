@@ -1,4 +1,4 @@
--- What the code's loops cite: an entry of each array that it makes, and the two ways out of a test of all. Assumes nothing.
+-- What the code's loops cite: what a turn reads, and the two ways out of a test of all. Assumes nothing.
 use mathlib.Core.Path.{_≡_, refl, sym, ap, ap₂, _∙_}
 use mathlib.Core.Bool.{Bool, true, false, _&&_}
 use mathlib.Core.List.{List}
@@ -13,21 +13,22 @@ use Rattle.laws.specs.Loops.{allTo, sumTo}
 use Rattle.laws.proofs.Cases.{split, if-yes, if-no}
 use Rattle.laws.proofs.All.{all-none, all-more, all-fails, all-done}
 use Rattle.laws.proofs.Sum.{sum-none, sum-more, sum-done}
+use Rattle.model.specs.declared.TaskNo.{TaskNo}
 use Rattle.model.specs.declared.State.{State}
-use Rattle.model.specs.State.{places, nobody, inSet, taskAt, resourceAt, serverAt, awaited, running, here, ownerOf, next, served, runningAt}
+use Rattle.model.specs.State.{places, inSet, taskAt, resourceAt, serverAt, here, ownerOf, next, served}
 use Rattle.model.specs.Sound.{each, ifHere}
-use Rattle.model.proofs.Chain.{served-below, owner-past, present-past}
-use Rattle.chain.specs.Arrays.{arrayOf, ownersOf, nextsOf, endNumbers, endsBy, atOrNobody}
-use Rattle.chain.proofs.Arrays.{array-at, array-same, owner-is, end-numbers-at, ends-are}
-use Rattle.soundness.specs.Members.{otherAt, memberAt, membersFit, usedIn}
-use Rattle.soundness.specs.Groups.{wanted, wantedOf, linkAt, linksBy, runsFor, taskPasses, taskPassesAt, resourcePasses, resourcePassesAt, serverPasses, serverPassesAt, executesPasses, runsForOf, serversPass}
+use Rattle.model.proofs.Chain.{served-below}
+use Rattle.chain.specs.Arrays.{arrayOf, wantedOf, endsOf, runsFor}
+use Rattle.chain.specs.Computed.{atOrNobody, linkAt}
+use Rattle.chain.proofs.Arrays.{array-at, end-served, link-is}
+use Rattle.soundness.specs.Computed.{otherAt, memberAt, membersFit, usedIn, taskPasses, taskPassesAt, resourcePasses, resourcePassesAt, serverPasses, serverPassesAt, executesPasses, serversPass}
 use Rattle.soundness.proofs.Passed.{depth, waiters, task-facts, resource-facts}
 
 -- a stack or queue, place by place: n is the number at place j, as the code reads it
 module _ (xs : List ℕ) (set : ℕ) (owners : List ℕ) (holder j n : ℕ) (number : n ≡ getD xs j 0) where
-  pub member-other : (owner : ℕ) → owner ≡ atOrNobody owners n → (owner ≡ holder → ⊥) → memberAt xs set owners holder j ≡ false
+  pub member-other : (owner : ℕ) → owner ≡ atOrNobody owners (getD xs j 0) → (owner ≡ holder → ⊥) → memberAt xs set owners holder j ≡ false
   unfolding memberAt
-  member-other owner o x = rw (ne-eqb (atOrNobody owners (getD xs j 0)) holder (λ e. x (o ∙ ap (atOrNobody owners) number ∙ e)))
+  member-other owner o x = rw (ne-eqb (atOrNobody owners (getD xs j 0)) holder (λ e. x (o ∙ e)))
 
   pub member-outside : inSet set n ≡ false → memberAt xs set owners holder j ≡ false
   unfolding memberAt
@@ -47,15 +48,14 @@ module _ (xs : List ℕ) (set : ℕ) (owners : List ℕ) (holder j n : ℕ) (num
 
   pub member-is
       : (owner : ℕ)
-      → owner ≡ atOrNobody owners n
+      → owner ≡ atOrNobody owners (getD xs j 0)
       → owner ≡ holder
       → inSet set n ≡ true
       → allTo j (otherAt xs (getD xs j 0)) ≡ true
       → true ≡ memberAt xs set owners holder j
   unfolding memberAt
   member-is owner o e i a =
-      rw
-      (eq-eqb (atOrNobody owners (getD xs j 0)) holder (ap (atOrNobody owners) (sym number) ∙ sym o ∙ e), ap (inSet set) (sym number) ∙ i, a)
+      rw (eq-eqb (atOrNobody owners (getD xs j 0)) holder (sym o ∙ e), ap (inSet set) (sym number) ∙ i, a)
 
 module _ (xs : List ℕ) (count set : ℕ) (owners : List ℕ) (holder : ℕ) where
   pub members-long : places < count → false ≡ membersFit xs count set owners holder
@@ -79,39 +79,6 @@ module _ (xs : List ℕ) (count set : ℕ) (owners : List ℕ) (holder : ℕ) wh
       → true ≡ membersFit xs count set owners holder
   unfolding membersFit
   members-done j m l g h = rw (le-leb count places m) (all-done (memberAt xs set owners holder) j count l g h)
-
--- the links read off owners and waits are the links of the state
-wanted-at : (st : State) (t : ℕ) → t < places → getD (wantedOf st) t 0 ≡ wanted st t
-unfolding wantedOf
-wanted-at st t l = array-at (wanted st) t l
-
-wanted-owner : (st : State) (t : ℕ) → ownerOf st (wanted st t) ≡ next st t
-unfolding wanted next
-wanted-owner st t = split (here st t) (λ y. rw y) (λ n. rw n (owner-past st nobody (present-past st nobody (omega arith))))
-
-pub links-are : (st : State) → linksBy (ownersOf st) (wantedOf st) ≡ nextsOf st
-unfolding linksBy linkAt nextsOf
-links-are st =
-    array-same
-    _
-    (next st)
-    (λ t l. ap (atOrNobody (ownersOf st)) (wanted-at st t l) ∙ owner-is st (wanted st t) ∙ wanted-owner st t)
-
--- whom a server in use serves while it runs
-pub runs-for-read
-    : (st : State) (ends : List ℕ) (s end : ℕ) (runs : Bool)
-    → s < places
-    → here st s ≡ true
-    → ends ≡ endNumbers st
-    → runs ≡ running (serverAt st s .phase)
-    → end ≡ (if runs then getD ends s 0 else nobody)
-    → end ≡ runsFor st s
-unfolding runsFor runningAt
-runs-for-read st ends s end runs l h e r v = v ∙ rw (r, h, ap (λ xs. getD xs s 0) e ∙ end-numbers-at st s l)
-
-pub runs-for-none : (st : State) (s : ℕ) → here st s ≡ false → runsFor st s ≡ nobody
-unfolding runsFor runningAt
-runs-for-none st s n = rw n
 
 -- a loop over the places in use that tests each and adds up its size: what it has after i turns
 module _ (used passed : ℕ → Bool) (size : ℕ → ℕ) where
@@ -165,7 +132,7 @@ module _ (used passed : ℕ → Bool) (size : ℕ → ℕ) where
 -- what the code reads of a task and of a resource is the state's, and one that passes has a stack or a queue that fits
 pub task-read
     : (st : State) (owners : List ℕ) (t : ℕ) (r : Bool)
-    → owners ≡ ownersOf st
+    → owners ≡ arrayOf (ownerOf st)
     → r ≡ taskPasses (st .resources) (st .clock) owners t (taskAt st t)
     → r ≡ taskPassesAt st t
 unfolding taskPassesAt
@@ -177,11 +144,11 @@ task-depth st t e = task-facts st t .holds e .stack .0
 pub resource-read
     : (st : State) (owners wants : List ℕ) (r : ℕ) (x : Bool)
     → r < places
-    → owners ≡ ownersOf st
+    → owners ≡ arrayOf (ownerOf st)
     → wants ≡ wantedOf st
     → x ≡ resourcePasses (getD owners r 0) wants r (resourceAt st r)
     → x ≡ resourcePassesAt st r
-unfolding resourcePassesAt ownersOf
+unfolding resourcePassesAt
 resource-read st owners wants r x l o w e =
     e ∙ ap₂ (λ n xs. resourcePasses n xs r (resourceAt st r)) (ap (λ xs. getD xs r 0) o ∙ array-at (ownerOf st) r l) w
 
@@ -206,53 +173,46 @@ module _ (st : State) (p : ℕ → Bool) (i : ℕ) where
   unfolding each
   each-done = all-done (ifHere st p) i places
 
--- what the code reads of a server, the end of its chain and whom the servers run for
-end-read : (st : State) (ends : List ℕ) (i : ℕ) → i < places → ends ≡ endNumbers st → getD ends i 0 ≡ served st i
-end-read st ends i l e = ap (λ xs. getD xs i 0) e ∙ end-numbers-at st i l
+-- the two tests of a server, with the link that leads on from the end of its chain: x is the first as the code reads it, y the second
+module _
+    (st : State)
+    (owners wants : List ℕ)
+    (ends : List TaskNo)
+    (i link : ℕ)
+    (l : i < places)
+    (oe : owners ≡ arrayOf (ownerOf st))
+    (we : wants ≡ wantedOf st)
+    (ee : ends ≡ endsOf st)
+    (le : link ≡ atOrNobody owners (getD wants (getD ends i (record { 0 = 0 }) .0) 0))
+    (x : Bool)
+    (xe : x ≡ serverPasses (st .clock) (serverAt st i) link (taskAt st (getD ends i (record { 0 = 0 }) .0)))
+  where
+    link-read : link ≡ next st (served st i)
+    unfolding linkAt
+    link-read = le ∙ rw (oe, we, end-served st ends i ee l) (link-is st (served st i) (served-below st i l))
 
-pub end-below : (st : State) (ends : List ℕ) (i : ℕ) → i < places → ends ≡ endNumbers st → getD ends i 0 < places
-end-below st ends i l e = rw (end-read st ends i l e) (served-below st i l)
+    first : x ≡ serverPasses (st .clock) (serverAt st i) (next st (served st i)) (taskAt st (served st i))
+    first = xe ∙ ap₂ (λ n t. serverPasses (st .clock) (serverAt st i) n (taskAt st t)) link-read (end-served st ends i ee l)
 
-module _ (st : State) (links ends : List ℕ) (i : ℕ) (l : i < places) (le : links ≡ nextsOf st) (ee : ends ≡ endNumbers st) where
-  link-read : getD links (getD ends i 0) 0 ≡ next st (served st i)
-  unfolding nextsOf
-  link-read =
-      ap₂ (λ xs e. getD xs e 0) le (end-read st ends i l ee) ∙ array-at (next st) (served st i) (served-below st i l)
+    pub server-fails : x ≡ false → serverPassesAt st i ≡ false
+    unfolding serverPassesAt
+    server-fails e = rw (sym first ∙ e)
 
-  -- the two tests of a server: x is the first as the code reads it, y the second
-  module _
-      (x : Bool)
-      (xe : x ≡ serverPasses (st .clock) (serverAt st i) (getD links (getD ends i 0) 0) (taskAt st (getD ends i 0)))
-    where
-      first : x ≡ serverPasses (st .clock) (serverAt st i) (next st (served st i)) (taskAt st (served st i))
-      first = xe ∙ ap₂ (λ link t. serverPasses (st .clock) (serverAt st i) link (taskAt st t)) link-read (end-read st ends i l ee)
+    pub server-both
+        : (runsBy : List ℕ) (y : Bool)
+        → runsBy ≡ arrayOf (runsFor st)
+        → y ≡ executesPasses runsBy i (taskAt st i .runs)
+        → x ≡ true
+        → y ≡ serverPassesAt st i
+    unfolding serverPassesAt
+    server-both runsBy y re ye e = rw (sym first ∙ e) (ye ∙ ap (λ xs. executesPasses xs i (taskAt st i .runs)) re)
 
-      pub server-fails : x ≡ false → serverPassesAt st i ≡ false
-      unfolding serverPassesAt
-      server-fails e = rw (sym first ∙ e)
-
-      module _
-          (runsBy : List ℕ)
-          (y : Bool)
-          (re : runsBy ≡ runsForOf st)
-          (ye : y ≡ executesPasses runsBy i (taskAt st i .runs))
-        where
-          pub server-both : x ≡ true → y ≡ serverPassesAt st i
-          unfolding serverPassesAt
-          server-both e = rw (sym first ∙ e) (ye ∙ ap (λ xs. executesPasses xs i (taskAt st i .runs)) re)
-
--- links, chain ends and seats, as the code makes them
-pub links-read : (st : State) (owners wants links : List ℕ) → owners ≡ ownersOf st → wants ≡ wantedOf st → links ≡ linksBy owners wants → links ≡ nextsOf st
-links-read st owners wants links o w e = e ∙ ap₂ linksBy o w ∙ links-are st
-
-pub ends-read : (st : State) (links ends : List ℕ) → links ≡ nextsOf st → ends ≡ endsBy links → ends ≡ endNumbers st
-ends-read st links ends l e = e ∙ ap endsBy l ∙ ends-are st
-
-module _ (st : State) (runsBy : List ℕ) (n : ℕ) (re : runsBy ≡ runsForOf st) (ne : n ≡ usedIn runsBy) where
+-- as many running as there are processors
+module _ (st : State) (runsBy : List ℕ) (n : ℕ) (re : runsBy ≡ arrayOf (runsFor st)) (ne : n ≡ usedIn runsBy) where
   pub seats-fail : st .processors < n → false ≡ serversPass st
   unfolding serversPass
-  seats-fail l = rw (lt-leb (usedIn (runsForOf st)) (st .processors) (rw (ne ∙ ap usedIn re) at l))
+  seats-fail l = rw (lt-leb (usedIn (arrayOf (runsFor st))) (st .processors) (rw (ne ∙ ap usedIn re) at l))
 
   pub seats-pass : (r : Bool) → n ≤ st .processors → r ≡ each st (serverPassesAt st) → r ≡ serversPass st
   unfolding serversPass
-  seats-pass r l e = rw (le-leb (usedIn (runsForOf st)) (st .processors) (rw (ne ∙ ap usedIn re) at l)) e
+  seats-pass r l e = rw (le-leb (usedIn (arrayOf (runsFor st))) (st .processors) (rw (ne ∙ ap usedIn re) at l)) e

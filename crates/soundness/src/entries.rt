@@ -1,8 +1,8 @@
-// One task, one resource, one server: whether its entry passes, as specs/Groups.antt says. Sums are made in 64 bits. Assumes nothing.
+// One task, one resource, one server: whether its entry passes, as specs/Computed.antt says. Sums are made in 64 bits. Assumes nothing.
 ghost use mathlib.Core.Path.{_≡_};
 ghost use Prim.Native.Nat.{_≤_};
 ghost use Rattle.laws.specs.Tests.{_iff_};
-ghost use Rattle.soundness.specs.Groups.{waitPasses, taskPasses, ownerPasses, resourcePasses, serverFits, servesPasses, serverPasses, executesPasses};
+ghost use Rattle.soundness.specs.Computed.{waitPasses, taskPasses, ownerPasses, resourcePasses, serverFits, servesPasses, serverPasses, executesPasses};
 use model::Mode;
 use model::Owner;
 use model::Phase;
@@ -11,7 +11,10 @@ use model::Runs;
 use model::Server;
 use model::Task;
 
-// A resource that is waited for is in use and declared.
+// A set with every resource, since a queue has no set.
+const EVERY_BIT: u16 = 65535;
+
+// A resource that is waited for is in use and declared (rules 4.7 and 4.11).
 fn wait_passes(resources: u16, declared: u16, mode: Mode) -> bool
     ensures { λ r. ⌜ r ≡ waitPasses resources declared mode ⌝ }
 {
@@ -28,7 +31,7 @@ fn wait_passes(resources: u16, declared: u16, mode: Mode) -> bool
     }
 }
 
-pub fn task_passes(resources: u16, clock: u32, owners: &[usize; 16], t: usize, task: Task) -> bool
+pub fn task_passes(resources: u16, clock: u32, owners: &[u16; 16], t: u16, task: Task) -> bool
     requires { ⌜ resources ≤ 16 ⌝ }
     ensures { λ r. ⌜ r ≡ taskPasses resources clock (now (owners .entry)) t task ⌝ }
 {
@@ -48,8 +51,8 @@ pub fn task_passes(resources: u16, clock: u32, owners: &[usize; 16], t: usize, t
     crate::lists::members_fit(&held, task.depth, declared, owners, t)
 }
 
-// A resource with an owner has one in use, one without has no queue.
-fn owner_passes(in_force: usize, waiting: u16, owner: Owner) -> bool
+// A resource with an owner has one in use, one without has no queue (rules 4.7 and 4.10).
+fn owner_passes(in_force: u16, waiting: u16, owner: Owner) -> bool
     ensures { λ r. ⌜ r ≡ ownerPasses «in_force» waiting owner ⌝ }
 {
     match owner {
@@ -58,7 +61,7 @@ fn owner_passes(in_force: usize, waiting: u16, owner: Owner) -> bool
     }
 }
 
-pub fn resource_passes(in_force: usize, wants: &[usize; 16], r: usize, resource: Resource) -> bool
+pub fn resource_passes(in_force: u16, wants: &[u16; 16], r: u16, resource: Resource) -> bool
     ensures { λ x. ⌜ x ≡ resourcePasses «in_force» (now (wants .entry)) r resource ⌝ }
 {
     let waiting = resource.waiting;
@@ -67,8 +70,8 @@ pub fn resource_passes(in_force: usize, wants: &[usize; 16], r: usize, resource:
     if !owner_passes(in_force, waiting, owner) {
         return false;
     }
-    let xs = crate::lists::numbers(queue);
-    crate::lists::members_fit(&xs, waiting, 65535, wants, r)
+    let xs = chain::links::numbers(queue);
+    crate::lists::members_fit(&xs, waiting, EVERY_BIT, wants, r)
 }
 
 fn same(a: bool, b: bool) -> bool
@@ -77,7 +80,7 @@ fn same(a: bool, b: bool) -> bool
     if a { b } else { !b }
 }
 
-// "each deadline ≤ clock + P; budget ≤ Q; budget 0 exactly when Recharging", own + lent + spin within the clock.
+// A server's own numbers: rules 1.4, 4.3 to 4.5 and 4.16.
 fn server_fits(clock: u32, server: Server) -> bool
     ensures { λ r. ⌜ r ≡ serverFits clock server ⌝ }
 {
@@ -103,7 +106,7 @@ fn server_fits(clock: u32, server: Server) -> bool
     spent <= time
 }
 
-// The phase of a server against the mode and place of the task that it serves.
+// The phase of a server against the mode and place of the task that it serves (rules 4.13 and 4.15).
 fn serves_passes(phase: Phase, mode: Mode, runs: Runs) -> bool
     ensures { λ r. ⌜ r ≡ servesPasses phase mode runs ⌝ }
 {
@@ -116,8 +119,8 @@ fn serves_passes(phase: Phase, mode: Mode, runs: Runs) -> bool
     }
 }
 
-// A server with the end of its chain: `link` leads on from there, `last` is the task that it serves.
-pub fn server_passes(clock: u32, server: Server, link: usize, last: Task) -> bool
+// A server with the end of its chain: `link` leads on from there where the chain closes (rule 4.12), `last` is the task that it serves.
+pub fn server_passes(clock: u32, server: Server, link: u16, last: Task) -> bool
     ensures { λ r. ⌜ r ≡ serverPasses clock server link last ⌝ }
 {
     let phase = server.phase;
@@ -132,14 +135,14 @@ pub fn server_passes(clock: u32, server: Server, link: usize, last: Task) -> boo
     serves_passes(phase, mode, runs)
 }
 
-// Task t executes only in a Running server that serves it.
-pub fn executes_passes(runs_by: &[usize; 16], t: usize, runs: Runs) -> bool
+// Task t executes only in a Running server that serves it (rule 4.14).
+pub fn executes_passes(runs_by: &[u16; 16], t: u16, runs: Runs) -> bool
     ensures { λ r. ⌜ r ≡ executesPasses (now («runs_by» .entry)) t runs ⌝ }
 {
     match runs {
         Runs::Nowhere => true,
         Runs::In(s) => {
-            let served = chain::links::at_or_nobody(runs_by, s.0 as usize);
+            let served = chain::links::at_or_nobody(runs_by, s.0);
             served == t
         }
     }

@@ -1,9 +1,8 @@
-// Stacks and queues: whether the first places of an array are their holder's, each number once, as specs/Members.antt says. Assumes nothing.
+// Stacks and queues: whether the first places of an array are their holder's, each number once, as specs/Computed.antt says. Assumes nothing.
 ghost use mathlib.Core.Path.{_≡_};
 ghost use Prim.Native.Nat.{_≤_};
 ghost use Rattle.laws.specs.Loops.{allTo};
-ghost use Rattle.soundness.specs.Members.{otherAt, membersFit, numbersOf, usedIn};
-use model::TaskNo;
+ghost use Rattle.soundness.specs.Computed.{otherAt, membersFit, usedIn};
 
 // Whether x stands at none of the first `count` places.
 fn is_new(xs: &[u16; 16], count: usize, x: u16) -> bool
@@ -30,8 +29,8 @@ pub fn members_fit<'a>(
     xs: &'a [u16; 16],
     count: u16,
     set: u16,
-    owners: &'a [usize; 16],
-    holder: usize,
+    owners: &'a [u16; 16],
+    holder: u16,
 ) -> bool
     ensures { λ r. ⌜ r ≡ membersFit (now (xs .entry)) count set (now (owners .entry)) holder ⌝ }
 {
@@ -42,7 +41,7 @@ pub fn members_fit<'a>(
     for j in 0..end {
         let x = xs[j];
         let number = wide(x);
-        let owner = chain::links::at_or_nobody(owners, number);
+        let owner = chain::links::at_or_nobody(owners, x);
         if owner != holder {
             return false;
         }
@@ -56,20 +55,8 @@ pub fn members_fit<'a>(
     true
 }
 
-// A queue as numbers.
-pub fn numbers(queue: [TaskNo; 16]) -> [u16; 16]
-    ensures { λ r. ⌜ r ≡ numbersOf queue ⌝ }
-{
-    let mut xs = [0u16; 16];
-    for j in 0..16usize {
-        let t = queue[j];
-        xs[j] = t.0;
-    }
-    xs
-}
-
 // How many entries are numbers in use.
-pub fn used(xs: &[usize; 16]) -> u16
+pub fn used(xs: &[u16; 16]) -> u16
     ensures { λ r. ⌜ r ≡ usedIn (now (xs .entry)) ⌝ }
 {
     let mut count: u16 = 0;

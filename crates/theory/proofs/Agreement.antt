@@ -3,14 +3,14 @@
 -- soundness and holds of the state between change and rule H too, and it is all that locality needs: chains stay inside a label (`served-home`), so
 -- what a group reads is its own: ends, who serves, who executes, whom rule H would choose. `Good` is what `free` keeps; nothing in it speaks of
 -- processors. Every number has a label, so entries past the counts and undeclared resources need nothing special. Assumes nothing.
-use Rattle.theory.proofs.Kit.{_≡_, refl, sym, ap, _∙_, Bool, true, false, _&&_, inl, inr, ℕ, zero, suc, _<_, arith, ltb, eqb, ltb-true, eqb-true, eqb-false}
+use Rattle.theory.proofs.Kit.{_≡_, refl, sym, ap, _∙_, Bool, true, false, _&&_, inl, inr, ℕ, _<_, arith, eqb, eqb-true, eqb-false}
 use Rattle.laws.proofs.Cases.{split, and-left, and-right}
 use Rattle.laws.proofs.SameAt.{SameAt, same-refl, same-sym, same-trans}
 use Rattle.model.specs.declared.State.{State}
-use Rattle.model.specs.State.{places, noServer, noTask, noResource, taskAt, resourceAt, here, present, awaited, ownerNo, ownerOf, next, chainEnd, served, runningAt, runningFor, executorOf, executing, executes, declares}
+use Rattle.model.specs.State.{places, noServer, noTask, noResource, taskAt, resourceAt, here, present, awaited, ownerNo, ownerOf, next, served, runningAt, runningFor, executorOf, executing, executes, declares}
 use Rattle.model.specs.RuleH.{budgetAt, chosen}
 use Rattle.model.specs.Shape.{Shaped}
-use Rattle.model.proofs.Chain.{linked-here}
+use Rattle.model.proofs.Chain.{linked-here, served-keeps, same-among}
 use Rattle.model.proofs.Chosen.{chosen-alone}
 use Rattle.model.proofs.Sound.{Loose}
 
@@ -76,15 +76,8 @@ module _ (l : Labels) where
         rw (h, y) (sym (home .owns r p (and-right (present st r) _ y)) ∙ home .waits t h p))
         (λ n. absurd (omega (arith, rw (h, n) at k)))
 
-    end-home : (left t : ℕ) → l .of-task (chainEnd left st t) ≡ l .of-task t
-    unfolding chainEnd
-    end-home zero t = refl
-    end-home (suc left) t =
-        split (ltb (next st t) places) (λ y. rw y (end-home left (next st t) ∙ next-home t (ltb-true _ _ y))) (λ n. rw n refl)
-
     pub served-home : (t : ℕ) → l .of-task (served st t) ≡ l .of-task t
-    unfolding served
-    served-home t = end-home places t
+    served-home t = served-keeps (λ x. l .of-task x ≡ l .of-task t) st (λ x e k. next-home x k ∙ e) t refl
 
     -- a server that serves t has its label, and no other serves it
     serves-home : (b : Bool) (t x : ℕ) → (b && eqb (served st x) t) ≡ true → l .of-task x ≡ l .of-task t
@@ -138,16 +131,8 @@ module _ (l : Labels) where
           (owner-same (awaited (taskAt s t .mode)) (λ p. home .waits t y p ∙ e)))
           (λ n. rw (← (here-same t), n) refl)
 
-      end-same : (left t : ℕ) → l .of-task t ≡ g → chainEnd left s t ≡ chainEnd left u t
-      unfolding chainEnd
-      end-same zero t e = refl
-      end-same (suc left) t e =
-          rw (← (next-same t e))
-          (split (ltb (next s t) places) (λ y. rw y (end-same left (next s t) (next-home s home t (ltb-true _ _ y) ∙ e))) (λ n. rw n refl))
-
       pub served-same : (t : ℕ) → l .of-task t ≡ g → served s t ≡ served u t
-      unfolding served
-      served-same t e = end-same places t e
+      served-same = same-among (λ x. l .of-task x ≡ g) s (λ x e k. next-home s home x k ∙ e) u next-same
 
       pub served-in : (t : ℕ) → l .of-task t ≡ g → l .of-task (served s t) ≡ g
       served-in t e = served-home s home t ∙ e

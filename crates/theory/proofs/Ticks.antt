@@ -7,7 +7,7 @@ use Rattle.laws.specs.Tests.{if_then_else_, bit}
 use Rattle.laws.specs.Loops.{countTo, sumTo}
 use Rattle.laws.proofs.Cases.{split, holds-fails, unheld-fails, and-left}
 use Rattle.laws.proofs.Count.{bit-le, count-sum, count-zero, count-but-one}
-use Rattle.laws.proofs.Sum.{sum-ext, sum-add, sum-zero}
+use Rattle.laws.proofs.Sum.{sum-ext, sum-swap, sum-zero}
 use Rattle.reordering.specs.Run.{after}
 use Rattle.theory.proofs.Declared.{State, Table, Event}
 use Rattle.model.specs.State.{places, serverAt, taskAt, here, served, runningAt, executing, executes}
@@ -25,12 +25,6 @@ use Rattle.fresh.proofs.Fresh.{fresh-sound, fresh-shaped}
 use Rattle.theory.proofs.Soundness.{kept, executes-for, servers-count, servers-that-execute}
 use Rattle.theory.proofs.Accounts.{event-adds}
 use Rattle.theory.proofs.Unread.{stepped-here}
-
--- a sum of sums in the other order
-sum-swap : (n m : ℕ) (f : ℕ → ℕ → ℕ) → sumTo n (λ i. sumTo m (f i)) ≡ sumTo m (λ j. sumTo n (λ i. f i j))
-unfolding sumTo
-sum-swap zero m f = sym (sum-zero m (λ j. 0) (λ j l. refl))
-sum-swap (suc n) m f = ap (λ k. k + sumTo m (f n)) (sum-swap n m f) ∙ sym (sum-add m (λ j. sumTo n (λ i. f i j)) (f n))
 
 -- a sum that grows by k wherever p holds
 sum-grows : (n k : ℕ) (p : ℕ → Bool) (f g : ℕ → ℕ) → ((i : ℕ) → i < n → f i ≡ g i + (if p i then k else 0)) → sumTo n f ≡ sumTo n g + k * countTo n p

@@ -5,7 +5,7 @@ use borrow.Author.Tests.{lt-ltb, le-ltb}
 use native.Mathlib.Omega.{arith}
 use borrow.Fn.Kinds.{In}
 use borrow.Fn.PlainCycle.{Measures, is, falls, and}
-use Rattle.chain.specs.Arrays.{endStep}
+use Rattle.chain.specs.Computed.{endStep}
 use Rattle.chain.proofs.Arrays.{end-none, end-more}
 use Rattle.chain.proofs.walk.end_of.Reads as end-of
 use Rattle.chain.proofs.walk.end_of.Kinds as end-of-kinds

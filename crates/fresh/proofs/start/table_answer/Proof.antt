@@ -6,7 +6,7 @@ use borrow.Author.Needs.{needs}
 use borrow.Author.Tests.{not-true, not-false}
 use native.Mathlib.Omega.{arith}
 use Rattle.fresh.specs.Start.{answerOf}
-use Rattle.fresh.proofs.Answers.{refusalTo, answer-none, answer-more, answer-skip, answer-done, counts-refused, counts-resources}
+use Rattle.fresh.proofs.Answers.{refusalTo, answer-none, answer-more, answer-skip, answer-done, counts-told, counts-resources}
 use Rattle.fresh.proofs.start.table_answer.Statement.{statement}
 use Rattle.fresh.proofs.start.table_answer.Tie as tie
 
@@ -17,17 +17,14 @@ table-answer-spec =
     (λ tb resources count answer₀ i₀ answer i. (i ≤ 16) × (answer ≡ answerOf (refusalTo tb i)))
     (λ tb resources count answer₀ i₀ answer i. 16 - i)
     (λ c κs. search needs)
-    (λ c. sym (ap answerOf (counts-refused (c .before .before .args .t1) (sym (c .before .counts-fit .ensures) ∙ not-true _ (c .if1 .taken)))))
+    (λ c. sym (ap answerOf (counts-told (c .before .before .args .t1) (sym (c .before .counts-fit .ensures) ∙ not-true _ (c .if1 .taken)))))
     (λ c. search needs)
     (λ c. (omega arith, answer-none _))
-    (λ c. omega arith)
-    (λ c. omega arith)
+    (λ c. omega arith) (λ c. omega arith)
     (λ c κs.
     let tested = c .before .before .before .before in
     counts-resources (tested .before .before .args .t1) (sym (tested .before .counts-fit .ensures) ∙ not-false _ (tested .if1 .left)))
-    (λ c κs. search needs)
-    (λ c. omega arith)
-    (λ c. omega arith)
+    (λ c κs. search needs) (λ c. omega arith) (λ c. omega arith)
     (λ c.
     let loop = c .before .before .loop in
     ⊎-elim

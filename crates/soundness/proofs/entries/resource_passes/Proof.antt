@@ -2,7 +2,7 @@
 use mathlib.Core.Path.{sym, _∙_}
 use borrow.Author.Needs.{needs}
 use borrow.Author.Tests.{not-true, not-false}
-use Rattle.soundness.specs.Groups.{resourcePasses}
+use Rattle.soundness.specs.Computed.{resourcePasses}
 use Rattle.soundness.proofs.entries.resource_passes.Statement.{statement}
 use Rattle.soundness.proofs.entries.resource_passes.Tie as tie
 

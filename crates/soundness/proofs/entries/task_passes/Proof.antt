@@ -2,7 +2,7 @@
 use mathlib.Core.Path.{sym, _∙_}
 use borrow.Author.Needs.{needs}
 use borrow.Author.Tests.{le-leb, lt-leb, not-true, not-false}
-use Rattle.soundness.specs.Groups.{taskPasses}
+use Rattle.soundness.specs.Computed.{taskPasses}
 use Rattle.soundness.proofs.entries.task_passes.Statement.{statement}
 use Rattle.soundness.proofs.entries.task_passes.Tie as tie
 

@@ -6,7 +6,7 @@ use borrow.Author.Tests.{eq-eqb, ne-eqb}
 use native.Mathlib.Omega.{arith}
 use Rattle.laws.specs.Loops.{allTo}
 use Rattle.laws.proofs.All.{all-none, all-more, all-fails, all-done}
-use Rattle.soundness.specs.Members.{otherAt}
+use Rattle.soundness.specs.Computed.{otherAt}
 use Rattle.soundness.proofs.lists.is_new.Statement.{statement}
 use Rattle.soundness.proofs.lists.is_new.Tie as tie
 

@@ -7,7 +7,7 @@ use borrow.Author.Tests.{not-true, not-false}
 use native.Mathlib.Omega.{arith}
 use Rattle.laws.specs.Loops.{allTo}
 use Rattle.laws.proofs.All.{all-none, all-more}
-use Rattle.soundness.specs.Members.{memberAt}
+use Rattle.soundness.specs.Computed.{memberAt}
 use Rattle.soundness.proofs.Turns.{member-other, member-outside, member-again, member-is, members-long, members-fail, members-done}
 use Rattle.soundness.proofs.lists.members_fit.Statement.{statement}
 use Rattle.soundness.proofs.lists.members_fit.Tie as tie

@@ -5,7 +5,7 @@ use borrow.Author.Needs.{needs}
 use native.Mathlib.Omega.{arith}
 use Rattle.laws.specs.Loops.{countTo}
 use Rattle.laws.proofs.Count.{bit-le, count-le, count-none, count-more, count-done}
-use Rattle.soundness.specs.Members.{usedAt, usedIn}
+use Rattle.soundness.specs.Computed.{usedAt, usedIn}
 use Rattle.soundness.proofs.lists.used.Statement.{statement}
 use Rattle.soundness.proofs.lists.used.Tie as tie
 

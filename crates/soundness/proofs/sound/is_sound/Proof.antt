@@ -3,8 +3,9 @@ use mathlib.Core.Path.{sym, _∙_}
 use borrow.Author.Needs.{needs}
 use borrow.Author.Tests.{not-true, not-false}
 use Rattle.model.specs.Sound.{sizesFit}
-use Rattle.soundness.specs.Groups.{passes}
-use Rattle.soundness.proofs.Passed.{sizes-fact}
+use Rattle.model.proofs.Sound.{sizes-fact}
+use Rattle.chain.proofs.Arrays.{owners-read}
+use Rattle.soundness.specs.Computed.{passes}
 use Rattle.soundness.proofs.Same.{sound-by}
 use Rattle.soundness.proofs.sound.is_sound.Statement.{statement}
 use Rattle.soundness.proofs.sound.is_sound.Tie as tie
@@ -16,22 +17,28 @@ is-sound-spec =
     (tie.spec
     (λ c κs. search needs)
     (λ c. sound-by _ _ (simp (sym (c .before .sizes-fit .ensures) ∙ not-true _ (c .if1 .taken))))
-    (λ c κs. search needs)
+    (λ c κs. search needs) (λ c κs. search needs)
     (λ c κs.
-    let first = c .before .before in
-    (c .before .owners .ensures, sizes-fact (first .before .before .args .st) .holds (sym (first .before .sizes-fit .ensures) ∙ not-false _ (first .if1 .left)) .0 .1))
+    let made = c .before in
+    let first = made .before .before in (
+      owners-read _ _ _ (made .before .owners .ensures) (made .numbers .ensures),
+      sizes-fact (first .before .before .args .st) .holds (sym (first .before .sizes-fit .ensures) ∙ not-false _ (first .if1 .left)) .0 .1,
+    ))
     (λ c.
-    let first = c .before .before .before .before in
+    let first = c .before .before .before .before .before in
     sound-by _ _
     (simp (
       sym (first .before .sizes-fit .ensures) ∙ not-false _ (first .if1 .left),
       sym (c .before .tasks-pass .ensures) ∙ not-true _ (c .if2 .taken),
     )))
     (λ c κs. search needs)
-    (λ c κs. (c .before .before .before .before .before .before .owners .ensures, c .before .before .wanted .ensures))
+    (λ c κs.
+    let read = c .before .before in
+    let made = read .before .before .before .before in
+    (owners-read _ _ _ (made .before .owners .ensures) (made .numbers .ensures), read .wanted .ensures))
     (λ c.
     let second = c .before .before .before .before .before in
-    let first = second .before .before .before .before in
+    let first = second .before .before .before .before .before in
     sound-by _ _
     (simp (
       sym (first .before .sizes-fit .ensures) ∙ not-false _ (first .if1 .left),
@@ -39,12 +46,13 @@ is-sound-spec =
       sym (c .before .resources-pass .ensures) ∙ not-true _ (c .if3 .taken),
     )))
     (λ c κs.
-    let wants = c .before .before .before .before .before .before in
-    (wants .before .before .before .before .owners .ensures, wants .wanted .ensures))
+    let read = c .before .before .before .before .before .before in
+    let made = read .before .before .before .before in
+    (owners-read _ _ _ (made .before .owners .ensures) (made .numbers .ensures), read .wanted .ensures))
     (λ c.
     let third = c .before .before .before in
     let second = third .before .before .before .before .before in
-    let first = second .before .before .before .before in
+    let first = second .before .before .before .before .before in
     sound-by _ _
     (simp (
       sym (first .before .sizes-fit .ensures) ∙ not-false _ (first .if1 .left),

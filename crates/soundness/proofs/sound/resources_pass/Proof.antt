@@ -7,8 +7,8 @@ use borrow.Author.Tests.{not-true, not-false}
 use native.Mathlib.Omega.{arith}
 use Rattle.model.specs.State.{present}
 use Rattle.model.specs.Sound.{eachResource, ifPresent}
-use Rattle.soundness.specs.Members.{usedIn}
-use Rattle.soundness.specs.Groups.{resourcePassesAt, lengthAt, resourcesPass}
+use Rattle.soundness.specs.Computed.{usedIn}
+use Rattle.soundness.specs.Computed.{resourcePassesAt, lengthAt, resourcesPass}
 use Rattle.soundness.proofs.Passed.{waiters}
 use Rattle.soundness.proofs.Turns.{SoFar, so-far-none, so-far-more, so-far-skip, so-far-fails, so-far-done, resource-read, resource-waiting}
 use Rattle.soundness.proofs.sound.resources_pass.Statement.{statement}
@@ -22,11 +22,8 @@ resources-pass-spec =
     (λ st owners wants resources total₀ r₀ total r. SoFar (present st) (resourcePassesAt st) (waiters st) r total)
     (λ st owners wants resources total₀ r₀ total r. 16 - r)
     (λ c. so-far-none _ _ _)
-    (λ c κs. search needs)
-    (λ c. omega arith)
-    (λ c. omega arith)
-    (λ c. omega arith)
-    (λ c. omega arith)
+    (λ c κs. search needs) (λ c. omega arith) (λ c. omega arith) (λ c. omega arith) (λ c. omega arith)
+    (λ c. let below = c .before .before .before .before .loop-test .taken in record { fits = omega arith })
     (λ c κs. search needs)
     (λ c.
     let turn = c .before .before .before .before .before in
@@ -46,8 +43,7 @@ resources-pass-spec =
           (sym (resource-read _ _ _ _ _ (turn .before .loop-test .taken) (start .pre .0) (start .pre .1) (c .before .before .resource-passes .ensures))
           ∙ not-false _ (c .before .if2 .left)),
     ))
-    (λ c. omega arith)
-    (λ c. omega arith)
+    (λ c. omega arith) (λ c. omega arith)
     (λ c.
     let turn = c .before in
     let start = turn .before .before .before .before in

@@ -7,8 +7,8 @@ use borrow.Author.Tests.{not-true, not-false}
 use native.Mathlib.Omega.{arith}
 use Rattle.model.specs.State.{here}
 use Rattle.model.specs.Sound.{each, ifHere}
-use Rattle.soundness.specs.Members.{usedIn}
-use Rattle.soundness.specs.Groups.{taskPassesAt, depthAt, tasksPass}
+use Rattle.soundness.specs.Computed.{usedIn}
+use Rattle.soundness.specs.Computed.{taskPassesAt, depthAt, tasksPass}
 use Rattle.soundness.proofs.Passed.{depth}
 use Rattle.soundness.proofs.Turns.{SoFar, so-far-none, so-far-more, so-far-skip, so-far-fails, so-far-done, task-read, task-depth}
 use Rattle.soundness.proofs.sound.tasks_pass.Statement.{statement}
@@ -22,9 +22,8 @@ tasks-pass-spec =
     (λ st owners tasks total₀ t₀ total t. SoFar (here st) (taskPassesAt st) (depth st) t total)
     (λ st owners tasks total₀ t₀ total t. 16 - t)
     (λ c. so-far-none _ _ _)
-    (λ c κs. search needs)
-    (λ c. omega arith)
-    (λ c. omega arith)
+    (λ c κs. search needs) (λ c. omega arith) (λ c. omega arith)
+    (λ c. let below = c .before .before .before .loop-test .taken in record { fits = omega arith })
     (λ c κs. c .before .before .before .before .before .before .pre .1)
     (λ c.
     let turn = c .before .before .before .before in
@@ -42,8 +41,7 @@ tasks-pass-spec =
       task-depth (start .args .st) _
           (sym (task-read _ _ _ _ (start .pre .0) (c .before .before .task-passes .ensures)) ∙ not-false _ (c .before .if2 .left)),
     ))
-    (λ c. omega arith)
-    (λ c. omega arith)
+    (λ c. omega arith) (λ c. omega arith)
     (λ c.
     let turn = c .before in
     let start = turn .before .before .before .before in

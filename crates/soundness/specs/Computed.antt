@@ -7,7 +7,7 @@ use Prim.Native.Nat.{ℕ, _+_}
 use lib.Dec.{ltb, leb, eqb}
 use lib.ListN.{getD}
 use Rattle.laws.specs.Tests.{if_then_else_, _iff_}
-use Rattle.laws.specs.Loops.{sumTo}
+use Rattle.laws.specs.Loops.{countTo, allTo, sumTo}
 use Rattle.model.specs.declared.Phase.{Phase}
 use Rattle.model.specs.declared.Phase.the-variants.{Idle, Active, Running, Recharging}
 use Rattle.model.specs.declared.Mode.{Mode}
@@ -20,31 +20,29 @@ use Rattle.model.specs.declared.Server.{Server}
 use Rattle.model.specs.declared.Task.{Task}
 use Rattle.model.specs.declared.Resource.{Resource}
 use Rattle.model.specs.declared.State.{State}
-use Rattle.model.specs.State.{places, nobody, serverAt, taskAt, resourceAt, inUse, here, present, inSet, recharging, suspended, awaited, placed, ownerOf, next, served, runningAt}
+use Rattle.model.specs.State.{places, serverAt, taskAt, resourceAt, inUse, here, present, inSet, recharging, suspended, placed, ownerOf, next, served}
 use Rattle.model.specs.Sound.{each, eachResource, quotaFits, declaredFits, sizesFit}
-use Rattle.chain.specs.Arrays.{arrayOf, ownersOf, atOrNobody}
-use Rattle.soundness.specs.Members.{membersFit, numbersOf, usedIn}
+use Rattle.chain.specs.Arrays.{arrayOf, wantedOf, runsFor}
+use Rattle.chain.specs.Computed.{numbersOf, atOrNobody}
 
--- what each task in use waits for
-unfoldable pub wanted : State → ℕ → ℕ
-wanted st t = if here st t then awaited (taskAt st t .mode) else nobody
+-- a stack or a queue, the first places of an array (rules 4.7 to 4.9): place k has another number than x,
+unfoldable pub otherAt : List ℕ → ℕ → ℕ → Bool
+otherAt xs x k = not (eqb (getD xs k 0) x)
 
-unfoldable pub wantedOf : State → List ℕ
-wantedOf st = arrayOf (wanted st)
+-- the number at place j is the holder's, is in the set, and stands at no earlier place
+unfoldable pub memberAt : List ℕ → ℕ → List ℕ → ℕ → ℕ → Bool
+memberAt xs set owners holder j =
+    eqb (atOrNobody owners (getD xs j 0)) holder && inSet set (getD xs j 0) && allTo j (otherAt xs (getD xs j 0))
 
--- the links that this makes with the owners
-unfoldable pub linkAt : List ℕ → List ℕ → ℕ → ℕ
-linkAt owners wants t = atOrNobody owners (getD wants t 0)
+unfoldable pub membersFit : List ℕ → ℕ → ℕ → List ℕ → ℕ → Bool
+membersFit xs count set owners holder = leb count places && allTo count (memberAt xs set owners holder)
 
-unfoldable pub linksBy : List ℕ → List ℕ → List ℕ
-linksBy owners wants = arrayOf (linkAt owners wants)
+-- how many entries of an array are numbers in use
+unfoldable pub usedAt : List ℕ → ℕ → Bool
+usedAt xs i = ltb (getD xs i 0) places
 
--- whom each Running server serves
-unfoldable pub runsFor : State → ℕ → ℕ
-runsFor st s = if runningAt st s then served st s else nobody
-
-unfoldable pub runsForOf : State → List ℕ
-runsForOf st = arrayOf (runsFor st)
+unfoldable pub usedIn : List ℕ → ℕ
+usedIn xs = countTo places (usedAt xs)
 
 -- a task: accounts, declared set, what it waits for, its stack
 abbrev pub waitPasses : ℕ → ℕ → Mode → Bool
@@ -60,14 +58,14 @@ taskPasses resources clock owners t k =
     && membersFit (k .held) (k .depth) (k .declared) owners t
 
 unfoldable pub taskPassesAt : State → ℕ → Bool
-taskPassesAt st t = taskPasses (st .resources) (st .clock) (ownersOf st) t (taskAt st t)
+taskPassesAt st t = taskPasses (st .resources) (st .clock) (arrayOf (ownerOf st)) t (taskAt st t)
 
 unfoldable pub depthAt : State → ℕ → ℕ
 depthAt st t = if here st t then taskAt st t .depth else 0
 
 -- as many entries in stacks as owned resources
 unfoldable pub tasksPass : State → Bool
-tasksPass st = each st (taskPassesAt st) && eqb (sumTo places (depthAt st)) (usedIn (ownersOf st))
+tasksPass st = each st (taskPassesAt st) && eqb (sumTo places (depthAt st)) (usedIn (arrayOf (ownerOf st)))
 
 -- a resource: its owner (nobody where the owner is not in use) and its queue
 abbrev pub ownerPasses : ℕ → ℕ → Owner → Bool
@@ -120,10 +118,10 @@ executesPasses runsBy t (In s) = eqb (atOrNobody runsBy (s .0)) t
 unfoldable pub serverPassesAt : State → ℕ → Bool
 serverPassesAt st i =
     serverPasses (st .clock) (serverAt st i) (next st (served st i)) (taskAt st (served st i))
-    && executesPasses (runsForOf st) i (taskAt st i .runs)
+    && executesPasses (arrayOf (runsFor st)) i (taskAt st i .runs)
 
 unfoldable pub serversPass : State → Bool
-serversPass st = leb (usedIn (runsForOf st)) (st .processors) && each st (serverPassesAt st)
+serversPass st = leb (usedIn (arrayOf (runsFor st))) (st .processors) && each st (serverPassesAt st)
 
 unfoldable pub passes : State → Bool
 passes st = sizesFit st && tasksPass st && resourcesPass st && serversPass st
