@@ -7,7 +7,7 @@ use Rattle.model.specs.declared.Phase.the-variants.{Idle, Active, Running, Rech
 use Rattle.model.specs.State.{places}
 use Rattle.model.specs.Said.{Word, ok, executes, spins, granted, waits, passed, freed, refused}
 
--- a field after a space
+-- rule 14.5: a field after a space, in decimal; and what ends a line
 unfoldable pub field : ℕ → List ℕ
 field n = bytes " " ++ decimal n
 

@@ -11,7 +11,7 @@ use Rattle.model.specs.Fresh.{noEntry, countsRefusal, entryRefusal}
 use Rattle.trace.specs.declared.Record.{Record}
 use Rattle.trace.specs.declared.Record.the-variants.{Counts, Reservation, Happening}
 
--- how much of the table is read: nothing; its counts and so many entries; all
+-- rule 13.4: how much of the table is read, nothing; its counts and so many entries; all
 pub data Stage : Type 0 where
   opening : Stage
   entering : Table → ℕ → Stage
