@@ -1,7 +1,7 @@
 -- Bytes past the counts are neither read nor written (rule 1.7): images that are alike in use are read as one state, images of one state are alike in use,
 -- writing one state into both keeps them alike, and a byte past the counts stays. Assumes nothing.
 use mathlib.Core.Path.{_≡_, sym, ap, ap₂, _∙_}
-use mathlib.Core.Bool.{true, false, _&&_}
+use mathlib.Core.Bool.{_&&_}
 use mathlib.Core.List.{List}
 use mathlib.Core.Logic.{_⊎_, inl, inr, ⊎-elim}
 use mathlib.Core.Option.{none, some}
@@ -23,7 +23,7 @@ use Rattle.model.specs.Fresh.{blankServer, blankTask, blankResource}
 use Rattle.image.specs.Layout.{headerSize, serverSize, taskSize, resourceSize, serversOffset, tasksOffset, resourcesOffset, imageSize, used}
 use Rattle.image.specs.Encoded.{headerBytes, serversBytes, tasksBytes, resourcesBytes, encoded}
 use Rattle.image.specs.Decoded.{tasksUsed, resourcesUsed, taskEntriesFit, resourceEntryFits, isImage, entriesIn, serverIn, taskIn, resourceIn, stateIn, decoded}
-use Rattle.image.specs.InUse.{inUseAt, AlikeInUse}
+use Rattle.image.specs.InUse.{inUseAt, AlikeInUse, SamePast}
 use Rattle.image.proofs.Stored.{stored-outside, stored-both, stands-agree}
 use Rattle.image.proofs.Local.{SameBytes, two-same, four-same, entries-same, server-fits-same, task-fits-same, resource-fits-same, server-same, task-same, resource-same}
 use Rattle.image.proofs.Image.{header-long, servers-long, tasks-long, resources-long, encoded-long, encoded-laid, laid-tasks, laid-resources, decoded-laid, decoded-long}
@@ -142,7 +142,7 @@ outside at end i n =
 
 -- a state of the same counts is written into the bytes in use,
 module _ (st : State) (bytes : List ℕ) (tasks : st .tasks ≡ twoBytes bytes 2) (resources : st .resources ≡ twoBytes bytes 4) where
-  pub encoded-past : (i : ℕ) → inUseAt bytes i ≡ false → byteAt (encoded st bytes) i ≡ byteAt bytes i
+  pub encoded-past : SamePast bytes (encoded st bytes)
   unfolding encoded
   encoded-past i e =
       let past = reflects-fails (in-use-fact bytes i) e in

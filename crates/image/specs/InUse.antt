@@ -1,6 +1,6 @@
 -- Which bytes of an image are in use, and when two images are alike there: what the laws on entries past the counts speak of (rule 1.7). Assumes nothing.
 use mathlib.Core.Path.{_≡_}
-use mathlib.Core.Bool.{Bool, true, _&&_, _||_}
+use mathlib.Core.Bool.{Bool, true, false, _&&_, _||_}
 use mathlib.Core.List.{List}
 use Prim.Native.Nat.{ℕ, _+_, _*_}
 use lib.Dec.{ltb, leb}
@@ -29,6 +29,10 @@ inUseAt bytes i =
 pub record AlikeInUse (a b : List ℕ) : Type 0 where
   pub long : length a ≡ length b
   pub same : (i : ℕ) → inUseAt a i ≡ true → byteAt a i ≡ byteAt b i
+
+-- the bytes past the counts are as they came
+abbrev pub SamePast : List ℕ → List ℕ → Type 0
+SamePast before after = (i : ℕ) → inUseAt before i ≡ false → byteAt after i ≡ byteAt before i
 
 -- a state with blank entries past its counts
 unfoldable pub blankPast : State → State

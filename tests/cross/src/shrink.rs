@@ -5,7 +5,7 @@
 
 use crate::case::{Case, Sides};
 use crate::layout::fields;
-use second::image::{decode, encode};
+use second::image::{decode, write, STATE_BYTES};
 use second::state::{Mode, Phase, ResourceNumber, State, TaskNumber, RESOURCE_LIMIT, TASK_LIMIT};
 
 /// How many smaller cases are tried at most; a long trace takes its time.
@@ -145,7 +145,7 @@ impl Reduction {
     fn of_state(self, bytes: &[u8]) -> Option<Vec<u8>> {
         if let Reduction::Reset(number) = self {
             let mut bytes = bytes.to_vec();
-            if bytes.len() == second::image::STATE_BYTES {
+            if bytes.len() == STATE_BYTES {
                 fields()[number].set(&mut bytes, 0);
             }
             return Some(bytes);
@@ -159,7 +159,9 @@ impl Reduction {
             Reduction::Rest(task) => rest(&mut state, TaskNumber(task)),
             _ => return None,
         }
-        Some(encode(&state))
+        let mut smaller = bytes.to_vec();
+        write(&state, &mut smaller);
+        Some(smaller)
     }
 
     fn of_sections(self, bytes: &mut Vec<u8>) -> Option<()> {

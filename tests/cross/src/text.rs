@@ -7,7 +7,7 @@ use crate::case::{Case, Seen, Told};
 use crate::layout::fields;
 use crate::sides::Call;
 use second::generate::runs::framed;
-use second::image::{decode, STATE_BYTES};
+use second::image::{decode, encode, STATE_BYTES};
 use second::library::METER_ROW_BYTES;
 use second::state::{Resource, Server, Task};
 use second::states::{counts_text, resource_text, server_text, task_text};
@@ -192,7 +192,7 @@ fn sections_text(bytes: &[u8]) -> String {
     text
 }
 
-/// The counts, the clock and all entries that aren't empty, those past the counts too.
+/// The counts, the clock and all entries that aren't empty, and what stands past the counts.
 fn state_text(bytes: &[u8]) -> String {
     let Some(state) = decode(bytes) else {
         return no_state_text(bytes);
@@ -211,6 +211,13 @@ fn state_text(bytes: &[u8]) -> String {
     for (number, resource) in state.resource.iter().enumerate() {
         if *resource != Resource::default() {
             let _ = writeln!(text, "resource {number} {}", resource_text(resource));
+        }
+    }
+    let in_use = encode(&state);
+    for field in fields() {
+        let value = field.value(bytes);
+        if value != field.value(&in_use) {
+            let _ = writeln!(text, "past the counts: {} {value}", field.name);
         }
     }
     text

@@ -11,6 +11,9 @@ const PER_CLAUSE: u64 = 100;
 /// Sound states that no events from fresh reach.
 pub const OUT_OF_REACH: &str = "given state: sound, out of reach from fresh";
 const TIMES_OUT_OF_REACH: u64 = 13_700;
+/// States with any bytes past their counts.
+pub const LITTERED: &str = "given state: any bytes past the counts";
+const TIMES_LITTERED: u64 = 10_000;
 
 /// What only the cross-check reaches, most of it as it speaks of bytes.
 const OWN: [&str; 23] = [
@@ -23,6 +26,7 @@ const OWN: [&str; 23] = [
     "given state: made up",
     "given state: perturbed",
     OUT_OF_REACH,
+    LITTERED,
     "given state: changed fields, sound",
     "given state: changed fields, not sound",
     "given state: no state's bytes",
@@ -46,6 +50,7 @@ fn wanted() -> Vec<(String, u64)> {
     names.extend(Damage::ALL.map(damage_name));
     let times = |name: &str| match name {
         OUT_OF_REACH => TIMES_OUT_OF_REACH,
+        LITTERED => TIMES_LITTERED,
         _ if name.starts_with("broken alone: ") => PER_CLAUSE,
         _ => 1,
     };

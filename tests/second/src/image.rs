@@ -1,14 +1,44 @@
 //! A state in bytes, as docs/STATE.md lays it out: how states are handed to the static library and
-//! compared with what it leaves.
+//! compared with what it leaves. Entries past the counts are neither read nor written.
 //!
 //! Assumes nothing of the bytes; those that no state has are none.
 
 use crate::state::{
     Mode, Phase, Resource, ResourceNumber, Server, ServerNumber, State, Task, TaskNumber,
+    RESOURCE_LIMIT, TASK_LIMIT,
 };
+use std::ops::Range;
 
 pub const STATE_BYTES: usize = 1802;
+const HEADER_BYTES: usize = 10;
+const SERVER_BYTES: usize = 29;
+const TASK_BYTES: usize = 46;
+const RESOURCE_BYTES: usize = 37;
+const TASKS_AT: usize = 474;
+const RESOURCES_AT: usize = 1210;
 
+/// The bytes that count: the header, and the servers, tasks and resources in use.
+pub fn in_use(tasks: u16, resources: u16) -> [Range<usize>; 4] {
+    let tasks = usize::from(tasks).min(TASK_LIMIT);
+    let resources = usize::from(resources).min(RESOURCE_LIMIT);
+    let entries = |at: usize, size: usize, count: usize| at..at + size * count;
+    [
+        0..HEADER_BYTES,
+        entries(HEADER_BYTES, SERVER_BYTES, tasks),
+        entries(TASKS_AT, TASK_BYTES, tasks),
+        entries(RESOURCES_AT, RESOURCE_BYTES, resources),
+    ]
+}
+
+/// Puts the header and the entries in use in place of their bytes.
+pub fn write(state: &State, bytes: &mut [u8]) {
+    let image = encode(state);
+    for part in in_use(state.tasks, state.resources) {
+        bytes[part.clone()].copy_from_slice(&image[part]);
+    }
+}
+
+/// A state's bytes, its entries past the counts too.
 pub fn encode(state: &State) -> Vec<u8> {
     let mut image = Writer(Vec::with_capacity(STATE_BYTES));
     image.two(state.processors);
@@ -22,27 +52,31 @@ pub fn encode(state: &State) -> Vec<u8> {
     image.0
 }
 
-/// The state that the bytes hold, if they are some state's.
+/// The state that the bytes hold, if they are some state's; entries past its counts are empty.
 pub fn decode(bytes: &[u8]) -> Option<State> {
     if bytes.len() != STATE_BYTES {
         return None;
     }
-    let mut image = Reader(bytes);
+    let mut header = Reader(bytes);
     let mut state = State {
-        processors: image.two(),
-        tasks: image.two(),
-        resources: image.two(),
-        clock: image.four(),
+        processors: header.two(),
+        tasks: header.two(),
+        resources: header.two(),
+        clock: header.four(),
         ..State::default()
     };
-    for server in &mut state.server {
-        *server = image.server()?;
+    let [_, servers, tasks, resources] = in_use(state.tasks, state.resources);
+    let entries = bytes[servers].chunks(SERVER_BYTES).map(Reader);
+    for (server, mut entry) in state.server.iter_mut().zip(entries) {
+        *server = entry.server()?;
     }
-    for task in &mut state.task {
-        *task = image.task()?;
+    let entries = bytes[tasks].chunks(TASK_BYTES).map(Reader);
+    for (task, mut entry) in state.task.iter_mut().zip(entries) {
+        *task = entry.task()?;
     }
-    for resource in &mut state.resource {
-        *resource = image.resource()?;
+    let entries = bytes[resources].chunks(RESOURCE_BYTES).map(Reader);
+    for (resource, mut entry) in state.resource.iter_mut().zip(entries) {
+        *resource = entry.resource()?;
     }
     Some(state)
 }

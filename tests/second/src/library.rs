@@ -4,22 +4,22 @@
 //! Assumes nothing of the bytes and numbers. A refusal writes nothing.
 
 use crate::bound::{bound as bound_of, Section, SectionTable, SECTION_LIMIT};
-use crate::image::{decode, encode, phase_byte, STATE_BYTES};
+use crate::image::{decode, encode, phase_byte, write, STATE_BYTES};
 use crate::meter::{read_meters, MeterRow};
 use crate::refusal::Refusal;
 use crate::replay::replay as listing_of;
 use crate::state::{
-    fresh as fresh_of, Counts, Execution, Reservation, ResourceNumber, ServerNumber, Table,
+    fresh as fresh_of, Counts, Execution, Reservation, ResourceNumber, ServerNumber, State, Table,
     TaskNumber, TASK_LIMIT,
 };
-use crate::step::{step as step_of, Event, Outcome};
+use crate::step::{step_sound, Event, Outcome};
 
 pub const BOUND_BYTES: usize = 12;
 pub const METER_ROW_BYTES: usize = 17;
 const ROW_BYTES: usize = 10;
 const SECTION_BYTES: usize = 9;
 const NO_PARENT: u8 = 255;
-/// Memory lent for a result has the wrong length; document 01 has no number for it.
+/// Memory lent for a result has the wrong length.
 const WRONG_ROOM: u16 = 0;
 
 const OK: u64 = 0;
@@ -63,6 +63,7 @@ pub fn fresh(table: &[u8], state: &mut [u8]) -> u64 {
     };
     match fresh_of(&table) {
         (made, Ok(())) => {
+            // All bytes: those past the counts become 0.
             state.copy_from_slice(&encode(&made));
             packed(OK, 0)
         }
@@ -70,25 +71,28 @@ pub fn fresh(table: &[u8], state: &mut [u8]) -> u64 {
     }
 }
 
+fn sound_state(bytes: &[u8]) -> Option<State> {
+    decode(bytes).filter(State::is_sound)
+}
+
 pub fn is_sound(state: &[u8]) -> u64 {
-    if decode(state).is_some_and(|state| state.is_sound()) {
-        packed(OK, 0)
-    } else {
-        refused(Refusal::StateNotSound.number())
+    match sound_state(state) {
+        Some(_) => packed(OK, 0),
+        None => refused(Refusal::StateNotSound.number()),
     }
 }
 
-/// Bytes that are no state are told before a kind that is no event's, and that before soundness.
+/// Refusals in ascending order: of the state, of the kind, of the event itself.
 pub fn step(state: &mut [u8], kind: u16, number: u16, resource: u16, ticks: u32) -> u64 {
-    let Some(mut held) = decode(state) else {
+    let Some(mut held) = sound_state(state) else {
         return refused(Refusal::StateNotSound.number());
     };
     let Some(event) = event_of(kind, number, resource, ticks) else {
         return refused(Refusal::RecordMalformed.number());
     };
-    match step_of(&mut held, event) {
+    match step_sound(&mut held, event) {
         Ok(answer) => {
-            state.copy_from_slice(&encode(&held));
+            write(&held, state);
             outcome(answer)
         }
         Err(refusal) => refused(refusal.number()),

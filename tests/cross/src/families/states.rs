@@ -1,6 +1,7 @@
 //! Given states: sound ones that no events from fresh need reach, ones in which a single clause of
 //! soundness is broken, and ones with a few fields changed to anything, which need be no state's.
-//! On each: is it sound, what does each server do, one or more events, and its meter rows.
+//! On each: is it sound, what does each server do, one or more events, and its meter rows. Often any
+//! bytes stand past the counts.
 //!
 //! Assumes nothing.
 
@@ -8,12 +9,12 @@ use super::traces::any_run;
 use crate::case::Case;
 use crate::layout::fields;
 use crate::sides::Call;
-use crate::wanted::OUT_OF_REACH;
+use crate::wanted::{LITTERED, OUT_OF_REACH};
 use second::generate::coverage::Coverage;
 use second::generate::events::{next_event, possible_events, Kind, Manner};
 use second::generate::random::Random;
 use second::generate::states::{broken_state, perturbed_state, sound_state, tangled_state};
-use second::image::{decode, encode};
+use second::image::{decode, encode, write, STATE_BYTES};
 use second::library::{meter, METER_ROW_BYTES};
 use second::state::{fresh, Clause, Execution, ServerNumber, State, TaskNumber, TASK_LIMIT};
 use second::step::{step, step_sound, Event};
@@ -48,7 +49,19 @@ pub fn broken(random: &mut Random, number: u64, coverage: &mut Coverage) -> Vec<
     let clause = Clause::ALL[number as usize % Clause::ALL.len()];
     let state = broken_state(random, clause);
     coverage.note_broken_alone(clause);
-    asked_of_any(random, coverage, encode(&state))
+    let bytes = littered(random, coverage, &state);
+    asked_of_any(random, coverage, bytes)
+}
+
+/// A state's bytes, every other time with any bytes past its counts.
+fn littered(random: &mut Random, coverage: &mut Coverage, state: &State) -> Vec<u8> {
+    if random.one_in(2) {
+        return encode(state);
+    }
+    coverage.note(LITTERED.to_string());
+    let mut bytes: Vec<u8> = (0..STATE_BYTES).map(|_| random.draw() as u8).collect();
+    write(state, &mut bytes);
+    bytes
 }
 
 /// Waits and owners tangled, or any fields changed, or both.
@@ -101,7 +114,7 @@ fn asked_of_sound(random: &mut Random, coverage: &mut Coverage, state: &State) -
     if is_out_of_reach(state) {
         coverage.note(OUT_OF_REACH.to_string());
     }
-    let bytes = encode(state);
+    let bytes = littered(random, coverage, state);
     let mut cases = questions(coverage, &bytes, Some(state));
     for event in events {
         cases.push(noted_step(coverage, &bytes, Some(state), event));

@@ -1,13 +1,15 @@
-//! A state in bytes: the offsets of docs/STATE.md, both ways, and bytes that no state has; and meter
-//! rows in bytes.
+//! A state in bytes: the offsets of docs/STATE.md, both ways, bytes past the counts, and bytes that no
+//! state has; and meter rows in bytes.
 //!
 //! Assumes nothing.
 
 use second::generate::random::Random;
 use second::generate::states::{sound_state, tangled_state};
-use second::image::{decode, encode, STATE_BYTES};
+use second::image::{decode, encode, in_use, write, STATE_BYTES};
 use second::library::{meter, METER_ROW_BYTES};
-use second::state::{Mode, Phase, ResourceNumber, ServerNumber, State, TaskNumber};
+use second::state::{
+    Mode, Phase, Resource, ResourceNumber, Server, ServerNumber, State, Task, TaskNumber,
+};
 
 const TASKS_AT: usize = 474;
 const RESOURCES_AT: usize = 1_210;
@@ -17,7 +19,36 @@ fn both_ways() {
     for seed in 0..500 {
         let mut random = Random::new(seed);
         for state in [sound_state(&mut random), tangled_state(&mut random)] {
-            assert_eq!(decode(&encode(&state)), Some(state));
+            assert_eq!(decode(&encode(&state)), Some(emptied_past(state)));
+        }
+    }
+}
+
+/// The state with nothing in its entries past the counts.
+fn emptied_past(mut state: State) -> State {
+    let (tasks, resources) = (usize::from(state.tasks), usize::from(state.resources));
+    state.server[tasks..].fill(Server::default());
+    state.task[tasks..].fill(Task::default());
+    state.resource[resources..].fill(Resource::default());
+    state
+}
+
+/// Any bytes past the counts: they are not read, and stay where the state is written.
+#[test]
+fn past_the_counts() {
+    for seed in 0..500 {
+        let mut random = Random::new(seed);
+        let state = sound_state(&mut random);
+        let mut bytes: Vec<u8> = (0..STATE_BYTES).map(|_| random.draw() as u8).collect();
+        let before = bytes.clone();
+        write(&state, &mut bytes);
+        assert_eq!(decode(&bytes), Some(emptied_past(state)));
+        let parts = in_use(state.tasks, state.resources);
+        let image = encode(&state);
+        for at in 0..STATE_BYTES {
+            let is_used = parts.iter().any(|part| part.contains(&at));
+            let expected = if is_used { image[at] } else { before[at] };
+            assert_eq!(bytes[at], expected, "byte {at}");
         }
     }
 }
@@ -60,23 +91,32 @@ fn fields_stand_at_their_offsets() {
     assert_eq!(set, expected);
 }
 
+/// In the last entry in use they make it no state's; in the next one they are not read.
 #[test]
 fn bytes_that_no_state_has() {
-    let empty = encode(&State::default());
+    let empty = encode(&State {
+        tasks: 3,
+        resources: 2,
+        ..State::default()
+    });
     assert_eq!(empty.len(), STATE_BYTES);
     assert_eq!(decode(&empty[1..]), None);
-    for (at, byte) in [
-        (10, 4),
-        (TASKS_AT, 3),
-        (TASKS_AT + 1, 1),
-        (TASKS_AT + 3, 2),
-        (TASKS_AT + 4, 1),
-        (RESOURCES_AT, 2),
-        (RESOURCES_AT + 2, 1),
+    let (server, task, resource) = (10 + 29 * 2, TASKS_AT + 46 * 2, RESOURCES_AT + 37);
+    for (at, size, byte) in [
+        (server, 29, 4),
+        (task, 46, 3),
+        (task + 1, 46, 1),
+        (task + 3, 46, 2),
+        (task + 4, 46, 1),
+        (resource, 37, 2),
+        (resource + 2, 37, 1),
     ] {
         let mut bytes = empty.clone();
         bytes[at] = byte;
         assert_eq!(decode(&bytes), None, "byte {at}");
+        let mut bytes = empty.clone();
+        bytes[at + size] = byte;
+        assert_eq!(decode(&bytes), decode(&empty), "byte {}", at + size);
     }
 }
 
