@@ -35,7 +35,7 @@ module _ (s : Sections) (t allowance : ℕ) where
   allowance-most e =
       leb-true _ _ (and-right (leb 1 allowance) _ (passed 45 _ [] (passed 44 (ltb t (s .tasks)) _ (later-none (tableRefusal s) _ e) .1) .0))
 
-  -- accepted: the bound, from the calculation as 01 says it, within the allowance
+  -- accepted: the bound, from the calculation as the rules say it, within the allowance
   pub answer-is : refusal s t allowance ≡ none → answer s t allowance ≡ within allowance (interference s (with noTask t) t Outermost noResource)
   unfolding answer
   answer-is e = rw e (ap (within allowance) (bound-is s (table-accepted e) t (task-there e)))
@@ -81,7 +81,7 @@ told-46 none allowance w h e = (
 )
 told-46 (some n) allowance w h e = absurd (h (cc))
 
--- "46 exactly when the weighings exceed the allowance"
+-- 46 comes where the weighings exceed the allowance, and only there
 pub spent-exactly
     : (s : Sections) (t allowance : ℕ)
     → (answer s t allowance ≡ Refused 46) ↔ ((refusal s t allowance ≡ none) × (allowance < bound s t .weighings))

@@ -98,7 +98,7 @@ bit-alone : (q r : ℕ) → q < 16 → r < 16 → inMask (oneBit q) r ≡ eqb r 
 unfolding alone allAlone
 bit-alone q r l m = same-test (inMask (oneBit q) r) (eqb r q) (all-at (alone q) 16 r m (all-at allAlone 16 q l bits-alone))
 
--- "with R and c's resource"
+-- a resource more
 pub mask-with : (m q : ℕ) → q < 16 → resourcesOf (bitOr (oneBit q) m) ≡ with (resourcesOf m) q
 mask-with m q l =
     same-set _ _ (sixteen _) (length-set (resourcesOf m) q true ∙ sixteen m)
@@ -143,7 +143,7 @@ nothing-common x l =
     (λ e. rw (eqb-true x 0 e) zero-bits)
     (λ e. eq-eqb x 0 (no-bits 16 x l (λ r m. all-at (unset x) 16 r m e)))
 
--- "one whose outer resources meet Held"
+-- whether two sets meet
 pub mask-meets : (a b : ℕ) → a < 2 ^ 16 → not (eqb (bitAnd a b) 0) ≡ meets (resourcesOf a) (resourcesOf b)
 unfolding meets notInBoth unset
 mask-meets a b l =

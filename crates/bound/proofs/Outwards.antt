@@ -1,4 +1,4 @@
--- Outer resources, as 01 says them: those of the parent, and the parent's. Assumes an accepted table.
+-- Outer resources, as rule 12.3 says them: those of the parent, and the parent's. Assumes an accepted table.
 use mathlib.Core.Path.{_≡_, refl, ap}
 use Prim.Native.Nat.{ℕ, zero, suc, _<_, _≤_}
 use native.Mathlib.Omega.{arith}

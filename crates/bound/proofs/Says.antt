@@ -1,4 +1,4 @@
--- What an answer says: the bound and the weighings are those of the calculation as 01 says it, a refusal has bound 0 and weighings 0, and nothing
+-- What an answer says: the bound and the weighings are those of the calculation as the rules say it, a refusal has bound 0 and weighings 0, and nothing
 -- else can be answered. Assumes nothing.
 use mathlib.Core.Path.{_≡_, refl, sym, _∙_}
 use mathlib.Core.Option.{Option, none, some}
@@ -19,7 +19,7 @@ use Rattle.bound.specs.Answer.{within, answer, said}
 use Rattle.bound.proofs.Unfolded.{interference}
 use Rattle.bound.proofs.Answers.{answer-is}
 
--- "Start: outermost sections, B the task itself, R empty"
+-- rule 12.6
 abbrev pub calculated : Sections → ℕ → Weighed
 calculated s t = interference s (with noTask t) t Outermost noResource
 
@@ -60,7 +60,7 @@ module _ (s : Sections) (t allowance : ℕ) where
   pub says : (b n : ℕ) → (answer s t allowance ≡ Bound b n) ↔ Says b n
   says b n = (says-if (refusal s t allowance) b n refl, said-if b n)
 
-  -- "Refusals return bound 0 and weighings 0": of the tests, and of 46
+  -- a refusal has neither a bound nor weighings (rule 12.9): of the tests, and of 46
   pub refused : (n : ℕ) → refusal s t allowance ≡ some n → said (answer s t allowance) ≡ record { refused = some n; bound = 0; weighings = 0 }
   unfolding answer
   refused n e = rw e

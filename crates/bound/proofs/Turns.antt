@@ -129,13 +129,13 @@ module _ (join : ℕ → Weighed → Weighed → Weighed) (sums : (i : ℕ) (x y
   turn-of a i v u l y p k v′ u′ e d ev eu = rw add-one (then-of a _ _ _ (sums i (gathered join give i) (give i)) v u l y p k v′ u′ e d ev eu)
 
 module _ (give : ℕ → Weighed) (a i v u l y p k : ℕ) (made : Of y p k ≡ spend (give i) l) where
-  -- "sum over the sections c"
+  -- a sum: one section more
   pub sum-goes : Of v u l ≡ spend (gathered (λ c. both) give i) a → Of (v + y) 0 k ≡ spend (gathered (λ c. both) give (i + 1)) a
   sum-goes e =
       turn-of (λ c. both) (λ c x z. refl) give a i v u l y p k (v + y) 0 e made
       (ap₂ (λ n m. n + m) (lasted _ a v u l e .value-is) (lasted _ l y p k made .value-is)) refl
 
-  -- "in the order giving the largest sum"
+  -- the largest of the orders: one task more
   pub order-goes
       : (m : ℕ) → m ≡ (if ltb v y then y else v)
       → Of v u l ≡ spend (gathered (λ x. larger) give i) a → Of m 0 k ≡ spend (gathered (λ x. larger) give (i + 1)) a
@@ -143,7 +143,7 @@ module _ (give : ℕ → Weighed) (a i v u l y p k : ℕ) (made : Of y p k ≡ s
       turn-of (λ x. larger) (λ x z w. refl) give a i v u l y p k m 0 e made
       (is ∙ ap₂ (λ n w. if ltb n w then w else n) (lasted _ a v u l e .value-is) (lasted _ l y p k made .value-is)) refl
 
-  -- "The first greatest counts": it is greater, or it is not
+  -- the first of the greatest: it is greater, or it is not
   module _ (e : Of v u l ≡ spend (gathered firstGreatest give i) a) (v′ u′ : ℕ) where
     value-was : v ≡ gathered firstGreatest give i .value
     value-was = lasted _ a v u l e .value-is

@@ -1,4 +1,4 @@
--- The calculations as 01 says them, each in terms of both: no number of tasks or of sections left stands in these equations.
+-- The calculations as the rules say them, each in terms of both: no number of tasks or of sections left stands in these equations.
 -- Assumes an accepted table, and sets of tasks that are 6 long.
 use mathlib.Core.Path.{_≡_, refl, sym, ap, _∙_, fun-ext}
 use mathlib.Core.Bool.{true, false}
@@ -33,7 +33,7 @@ orders s q b remaining held = order (remain remaining) (weighing (interference s
 abbrev pub orderingValue : Sections → Tasks → ℕ → Resources → Weighed
 orderingValue s b q entry = orders s q b (blockers s q b) entry
 
--- "trying each remaining task next, then each remaining after it"
+-- the tree of orders: rule 12.8
 pub order-is : (s : Sections) (q : ℕ) (b remaining : Tasks) (held : Resources) → length remaining ≡ 6
     → orders s q b remaining held ≡ gathered (λ x. larger) (triedNext (weighing (interference s) s) (orders s q) s q b remaining held) 6
 unfolding orders order
@@ -72,7 +72,7 @@ module _ (s : Sections) (good : Accepted s) (b : Tasks) (six : length b ≡ 6) w
       (omega (arith, outside-with s b x six (outside-six s good b x e) e)))
       ∙ order-more s q b (weighing (interference s) s) (outside s b) (blockers s q b) entry (blockers-six s good q b) (blockers-most s good q b)
 
-  -- "sum over the sections c: the ordering value, plus the same calculation on c's direct children, both with R and c's resource"
+  -- interference: rule 12.4
   pub sum-is : (t : ℕ) (p : Parent) (r : Resources)
       → interference s b t p r ≡ gathered (λ c. both) (sumOver (orderingValue s b) (interference s b t) s t p r) (s .count)
   unfolding sums
@@ -94,7 +94,7 @@ outside-none s (suc n) =
     (λ y. rw (y, replicate-at 6 n false) (omega (arith, ltb-true n (s .tasks) y, outside-none s n)))
     (λ e. rw e (omega (arith, ltb-false n (s .tasks) e, outside-none s n)))
 
--- "Start: outermost sections, B the task itself, R empty"
+-- rule 12.6
 pub bound-is : (s : Sections) → Accepted s → (t : ℕ) → t < s .tasks → bound s t ≡ interference s (with noTask t) t Outermost noResource
 unfolding bound interference isOutside
 bound-is s good t l =

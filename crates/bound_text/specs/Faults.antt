@@ -6,7 +6,7 @@ use lib.Dec.{eqb}
 use lib.ListN.{getD}
 use Rattle.laws.specs.Tests.{if_then_else_}
 use Rattle.bound.specs.declared.Sections.{Sections}
-use Rattle.bound.specs.Table.{tableRefusal}
+use Rattle.bound.specs.Table.{sectionNumbers, tableRefusal}
 use Rattle.bound_text.specs.declared.Reading.{Reading}
 
 -- the table of the first sections
@@ -28,4 +28,4 @@ lineFrom r number (suc left) i = if isRefused r number (suc i) then getD (r .lin
 
 -- if it is refused without sections, the line of the number of tasks
 unfoldable pub faultyLine : Reading → ℕ → ℕ
-faultyLine r number = if isRefused r number 0 then r .first else lineFrom r number 12 0
+faultyLine r number = if isRefused r number 0 then r .first else lineFrom r number sectionNumbers 0

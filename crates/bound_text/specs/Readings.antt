@@ -9,11 +9,11 @@ use Rattle.laws.specs.Loops.{foldTo}
 use Rattle.bound.specs.declared.Parent.{Parent}
 use Rattle.bound.specs.declared.Parent.the-variants.{Outermost, Inside}
 use Rattle.bound.specs.declared.Section.{Section}
-use Rattle.bound.specs.Table.{noSection}
+use Rattle.bound.specs.Table.{sectionNumbers, noSection}
 use Rattle.bound_text.specs.declared.Line.{Line}
 use Rattle.bound_text.specs.declared.Reading.{Reading}
 use Rattle.bound_text.specs.declared.State.{State}
-use Rattle.bound_text.specs.Lines.{noLine, withByte}
+use Rattle.bound_text.specs.Lines.{fieldNumbers, greatest, noLine, withByte}
 
 abbrev pub readingSaid : ℕ → ℕ → Bool → ℕ → List Section → List ℕ → ℕ → ℕ → Reading
 readingSaid tasks first clear count section lines surplus line =
@@ -29,11 +29,15 @@ readingSaid tasks first clear count section lines surplus line =
     }
 
 abbrev pub noReading : Reading
-noReading = readingSaid 0 0 true 0 (replicate 12 noSection) (replicate 12 0) 0 1
+noReading = readingSaid 0 0 true 0 (replicate sectionNumbers noSection) (replicate sectionNumbers 0) 0 1
 
--- a number as the table holds it, or the greatest of 16 bits
+-- the greatest number of 16 bits
+abbrev pub greatestShort : ℕ
+greatestShort = 65535
+
+-- a number as the table holds it, or the greatest that it can hold
 abbrev pub short : ℕ → ℕ
-short n = if ltb n 65535 then n else 65535
+short n = if ltb n greatestShort then n else greatestShort
 
 abbrev pub parentSaid : Line → Parent
 parentSaid l = if l .outermost then Outermost else Inside (short (getD (l .value) 3 0))
@@ -55,7 +59,7 @@ lost r = readingSaid (r .tasks) (r .first) false (r .count) (r .section) (r .lin
 unfoldable pub advanced : Reading → Reading
 advanced r =
     if not (r .clear) then r
-    else if eqb (r .line) 4294967295 then r
+    else if eqb (r .line) greatest then r
     else readingSaid (r .tasks) (r .first) (r .clear) (r .count) (r .section) (r .lines) (r .surplus) (r .line + 1)
 
 -- the first line that is not blank: the number of tasks
@@ -69,9 +73,9 @@ unfoldable pub withSection : Reading → Line → Reading
 withSection r l =
     let sections = set (r .section) (r .count) (sectionSaid l) in
     let lines = set (r .lines) (r .count) (r .line) in
-    if not (eqb (l .fields) 4) then lost r
-    else if ltb 12 (r .count) then r
-    else if eqb (r .count) 12 then readingSaid (r .tasks) (r .first) (r .clear) 13 (r .section) (r .lines) (r .line) (r .line)
+    if not (eqb (l .fields) fieldNumbers) then lost r
+    else if ltb sectionNumbers (r .count) then r
+    else if eqb (r .count) sectionNumbers then readingSaid (r .tasks) (r .first) (r .clear) (sectionNumbers + 1) (r .section) (r .lines) (r .line) (r .line)
     else readingSaid (r .tasks) (r .first) (r .clear) (r .count + 1) sections lines (r .surplus) (r .line)
 
 unfoldable pub ended : Reading → Line → Reading

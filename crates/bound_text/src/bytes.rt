@@ -2,14 +2,19 @@
 ghost use mathlib.Core.Path.{_≡_};
 ghost use Prim.Native.Nat.{_<_};
 ghost use Rattle.bound_text.specs.Lines.{noLine, unclear, appended, opened, longer, withDigit, withDash, withByte};
+use crate::FIELDS;
+use crate::GREATEST;
 use crate::Line;
+
+// The tenth of the greatest number: below it there is room for a digit more.
+const TENTH: u32 = GREATEST / 10;
 
 pub(crate) fn fresh() -> Line
     ensures { λ r. ⌜ r ≡ noLine ⌝ }
 {
     Line {
         fields: 0,
-        value: [0; 4],
+        value: [0; FIELDS],
         inside: false,
         outermost: false,
         clear: true,
@@ -29,10 +34,10 @@ fn appended(number: u32, digit: u32) -> u32
     requires { ⌜ digit < 10 ⌝ }
     ensures { λ r. ⌜ r ≡ appended number digit ⌝ }
 {
-    if number < 429496729 {
+    if number < TENTH {
         return number * 10 + digit;
     }
-    4294967295
+    GREATEST
 }
 
 // The first digit of a field.

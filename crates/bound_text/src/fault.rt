@@ -2,6 +2,7 @@
 ghost use mathlib.Core.Path.{_≡_};
 ghost use Rattle.bound_text.specs.Faults.{tableTo, isRefused, faultyLine};
 use crate::Reading;
+use bound::SECTIONS;
 use bound::Sections;
 use bound::table;
 use model::Verdict;
@@ -38,7 +39,7 @@ pub fn faulty_line(reading: Reading, number: u16) -> u32
         return reading.first;
     }
     let lines = reading.lines;
-    for i in 0..12usize {
+    for i in 0..SECTIONS {
         if is_refused(reading, number, i as u16 + 1) {
             return lines[i];
         }

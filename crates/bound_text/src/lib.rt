@@ -1,16 +1,25 @@
 // A table of sections as text (docs/BOUNDS.md): a line with the number of tasks, then a line for each section, read a byte at a time.
 // What a text is read as stands in specs/. Assumes nothing.
+use bound::SECTIONS;
 use bound::Section;
 
 mod bytes;
 pub mod fault;
 pub mod read;
 
+// The fields of a section's line.
+pub const FIELDS: usize = 4;
+
+// The greatest numbers of 32 and of 16 bits: a greater one counts as these.
+pub const GREATEST: u32 = 4294967295;
+
+pub const GREATEST_SHORT: u16 = 65535;
+
 // What a line has shown so far: how many fields and their numbers, whether the last byte stands in a number, whether the last field is a dash,
 // whether the line is understood, and whether a comment has begun.
 pub struct Line {
     pub fields: u16,
-    pub value: [u32; 4],
+    pub value: [u32; FIELDS],
     pub inside: bool,
     pub outermost: bool,
     pub clear: bool,
@@ -25,8 +34,8 @@ pub struct Reading {
     pub first: u32,
     pub clear: bool,
     pub count: u16,
-    pub section: [Section; 12],
-    pub lines: [u32; 12],
+    pub section: [Section; SECTIONS],
+    pub lines: [u32; SECTIONS],
     pub surplus: u32,
     pub line: u32,
 }

@@ -1,11 +1,14 @@
 // A table's text, and a number's. Assumes nothing.
 ghost use mathlib.Core.Path.{_≡_};
 ghost use Rattle.bound_text.specs.Readings.{noReading, short, parentSaid, sectionSaid, lost, advanced, withTasks, withSection, ended, taken, readFrom, numberFrom};
+use crate::GREATEST;
+use crate::GREATEST_SHORT;
 use crate::Line;
 use crate::Reading;
 use crate::State;
 use crate::bytes;
 use bound::Parent;
+use bound::SECTIONS;
 use bound::Section;
 use model::TaskNo;
 
@@ -23,8 +26,8 @@ fn nothing() -> Reading
         first: 0,
         clear: true,
         count: 0,
-        section: [none; 12],
-        lines: [0; 12],
+        section: [none; SECTIONS],
+        lines: [0; SECTIONS],
         surplus: 0,
         line: 1,
     }
@@ -34,10 +37,10 @@ fn nothing() -> Reading
 fn short(number: u32) -> u16
     ensures { λ r. ⌜ r ≡ short number ⌝ }
 {
-    if number < 65535 {
+    if number < GREATEST_SHORT as u32 {
         return number as u16;
     }
-    65535
+    GREATEST_SHORT
 }
 
 fn parent(line: Line) -> Parent
@@ -79,7 +82,7 @@ fn advanced(mut reading: Reading) -> Reading
     if !reading.clear {
         return reading;
     }
-    if line == 4294967295 {
+    if line == GREATEST {
         return reading;
     }
     reading.line = line + 1;

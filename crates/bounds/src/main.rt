@@ -69,10 +69,9 @@ fn put_bound(s: Sections, task: TaskNo, allowance: u32) {
 }
 
 fn put_bounds(s: Sections, allowance: u32) {
-    for task in 0..6u16 {
-        if task < s.tasks {
-            put_bound(s, TaskNo(task), allowance);
-        }
+    let tasks = s.tasks;
+    for task in 0..tasks {
+        put_bound(s, TaskNo(task), allowance);
     }
 }
 

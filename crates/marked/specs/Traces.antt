@@ -1,11 +1,12 @@
 -- Reading records, the order of a trace, and where a replay stops. Assumes nothing.
 use mathlib.Core.List.{List, [], _∷_, _++_}
-use Prim.Native.Nat.{ℕ}
+use Prim.Native.Nat.{ℕ, _+_}
 use lib.ListN.{replicate}
 use Rattle.model.specs.declared.Event.the-variants.{Elapse}
 use Rattle.trace.specs.declared.Record.{Record}
 use Rattle.trace.specs.declared.Record.the-variants.{Counts, Reservation, Happening}
 use Rattle.trace.specs.declared.Read.the-variants.{Got, End, Fault}
+use Rattle.trace.specs.Order.{fileLimit}
 use Rattle.marked.specs.Trace.{line, tableOf, wake, suspend, dispatch, preempt, recharge, lock, unlock, countsBytes, entryBytes, eventBytes, traceOf}
 use Rattle.marked.specs.Example.{Example, prints, reads}
 
@@ -80,6 +81,6 @@ traces =
     ∷ prints oneTask "end 0\nserver 0 idle 2 0 0 0 0\ntask 0 0\n"
     ∷ prints (oneTask ++ eventBytes (wake 65535)) "1 refused 2\nend 0\nserver 0 idle 2 0 0 0 0\ntask 0 0\n"
     -- 33: one byte too many; as many as there may be are read
-    ∷ prints (replicate 60001 0) "stop 0 33\n"
-    ∷ prints (replicate 60000 0) "stop 0 31\n"
+    ∷ prints (replicate (fileLimit + 1) 0) "stop 0 33\n"
+    ∷ prints (replicate fileLimit 0) "stop 0 31\n"
     ∷ []

@@ -8,8 +8,8 @@ pub put-bounds-spec : {M : Type 1} → statement M
 put-bounds-spec =
     tie.close
     (tie.spec
-    (λ s allowance task₀ task. task ≤ 6)
-    (λ s allowance task₀ task. 6 - task)
+    (λ s allowance tasks task₀ task. task ≤ tasks)
+    (λ s allowance tasks task₀ task. tasks - task)
     (λ c. search needs)
     (λ c κs. search needs)
     (λ c. search needs)
