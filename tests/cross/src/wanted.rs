@@ -16,7 +16,7 @@ pub const LITTERED: &str = "given state: any bytes past the counts";
 const TIMES_LITTERED: u64 = 10_000;
 
 /// What only the cross-check reaches, most of it as it speaks of bytes.
-const OWN: [&str; 23] = [
+const OWN: [&str; 24] = [
     "fresh ok",
     "fresh refused 0",
     "fresh refused 19 for its length",
