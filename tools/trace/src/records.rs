@@ -1,4 +1,4 @@
-//! The kinds of record a trace has (document 01, "Trace and replay"), with their words and fields.
+//! The kinds of record a trace has (rules 13.2 and 13.3), with their words and fields.
 //!
 //! Assumes nothing. Both directions go by this table, so that they can't disagree.
 
