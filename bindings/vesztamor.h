@@ -130,7 +130,7 @@ uint64_t vesztamor_fresh(const uint8_t *table, size_t table_length, uint8_t *sta
 uint64_t vesztamor_is_sound(const uint8_t *state, size_t state_length);
 
 /* One event. number is the task's or the server's, resource a lock's or an unlock's, ticks an elapse's; an event looks at its own operands alone.
- * Refused 1: no state, or none that is sound; 31: no such kind (told before soundness); else as docs/REFUSALS.md has it. */
+ * Refused 1: no state, or none that is sound; 31: no such kind; else as docs/REFUSALS.md has it. Bytes past the counts stay. */
 uint64_t vesztamor_step(uint8_t *state, size_t state_length, uint16_t kind, uint16_t number, uint16_t resource, uint32_t ticks);
 
 /* What a server is doing: executes or spins, and the task; ok 0 where it is not Running or there is no such server. Refused 1: no state. */

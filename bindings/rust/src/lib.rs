@@ -136,6 +136,7 @@ pub enum Event {
 }
 
 /// A state in its bytes. Any bytes may be given; those that no state has are refused with number 1.
+/// Bytes past the counts are neither read nor changed; `==` compares them too.
 #[derive(Clone, PartialEq, Eq, Hash)]
 pub struct State {
     pub bytes: [u8; STATE_BYTES],

@@ -70,14 +70,14 @@ module _ (a b : List ℕ) (alike : AlikeInUse a b) where
   unfolding isImage taskEntriesFit resourceEntryFits
   image-same =
       let tasks =
-          all-ext (tasksUsed a) (taskEntriesFit a) (taskEntriesFit b)
-          (λ i l.
-          ap₂ _&&_
-          (server-fits-same a b _ _ servers-same (serversOffset + serverSize * i) (omega arith) (omega arith))
-          (task-fits-same a b _ _ tasks-same (tasksOffset + taskSize * i) (omega arith) (omega arith))) in
+      all-ext (tasksUsed a) (taskEntriesFit a) (taskEntriesFit b)
+      (λ i l.
+      ap₂ _&&_
+      (server-fits-same a b _ _ servers-same (serversOffset + serverSize * i) (omega arith) (omega arith))
+      (task-fits-same a b _ _ tasks-same (tasksOffset + taskSize * i) (omega arith) (omega arith))) in
       let resources =
-          all-ext (resourcesUsed a) (resourceEntryFits a) (resourceEntryFits b)
-          (λ r l. resource-fits-same a b _ _ resources-same (resourcesOffset + resourceSize * r) (omega arith) (omega arith)) in
+      all-ext (resourcesUsed a) (resourceEntryFits a) (resourceEntryFits b)
+      (λ r l. resource-fits-same a b _ _ resources-same (resourcesOffset + resourceSize * r) (omega arith) (omega arith)) in
       ap₂ _&&_ (ap (λ n. eqb n imageSize) (alike .long))
       (ap₂ _&&_
       (tasks ∙ ap (λ n. allTo (used n) (taskEntriesFit b)) task-count)
@@ -87,14 +87,14 @@ module _ (a b : List ℕ) (alike : AlikeInUse a b) where
   unfolding stateIn
   state-same =
       let servers =
-          entries-same serverIn serverSize blankServer (tasksUsed a) a b serversOffset
-          (λ i l. server-same a b _ _ servers-same (serversOffset + serverSize * i) (omega arith) (omega arith)) in
+      entries-same serverIn serverSize blankServer (tasksUsed a) a b serversOffset
+      (λ i l. server-same a b _ _ servers-same (serversOffset + serverSize * i) (omega arith) (omega arith)) in
       let tasks =
-          entries-same taskIn taskSize blankTask (tasksUsed a) a b tasksOffset
-          (λ i l. task-same a b _ _ tasks-same (tasksOffset + taskSize * i) (omega arith) (omega arith)) in
+      entries-same taskIn taskSize blankTask (tasksUsed a) a b tasksOffset
+      (λ i l. task-same a b _ _ tasks-same (tasksOffset + taskSize * i) (omega arith) (omega arith)) in
       let resources =
-          entries-same resourceIn resourceSize blankResource (resourcesUsed a) a b resourcesOffset
-          (λ r l. resource-same a b _ _ resources-same (resourcesOffset + resourceSize * r) (omega arith) (omega arith)) in
+      entries-same resourceIn resourceSize blankResource (resourcesUsed a) a b resourcesOffset
+      (λ r l. resource-same a b _ _ resources-same (resourcesOffset + resourceSize * r) (omega arith) (omega arith)) in
       λ j. record {
         processors = two-same a b 0 headerSize header-same 0 (omega arith) (omega arith) j;
         tasks = task-count j;

@@ -81,8 +81,8 @@ module _ (a b : List ℕ) (from to : ℕ) (same : SameBytes a b from to) where
     unfolding resourceIn
     resource-same m =
         let queue =
-            entries-same taskNoIn 2 noTaskNo places a b (at + 5)
-            (λ i l. λ j. record { 0 = two-same (at + 5 + 2 * i) (omega arith) (omega arith) j }) in
+        entries-same taskNoIn 2 noTaskNo places a b (at + 5)
+        (λ i l. λ j. record { 0 = two-same (at + 5 + 2 * i) (omega arith) (omega arith) j }) in
         λ j. record {
           owner = ownerOf (tagged-same at low (omega arith) j);
           waiting = two-same (at + 3) (omega arith) (omega arith) j;

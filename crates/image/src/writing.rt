@@ -6,8 +6,7 @@ ghost use lib.Dec.{eqb};
 ghost use lib.ListN.{length};
 ghost use Rattle.bytes.specs.Numbers.{two};
 ghost use Rattle.bytes.specs.Writing.{stored};
-ghost use Rattle.model.specs.State.{noServer, noTask, noResource};
-ghost use Rattle.image.specs.Layout.{serversOffset, tasksOffset, resourcesOffset, imageSize};
+ghost use Rattle.image.specs.Layout.{imageSize};
 ghost use Rattle.image.specs.Encoded.{taggedBytes, entries, noTaskNo, taskNoBytes, serverBytes, taskBytes, resourceBytes, written};
 use crate::Tagged;
 use crate::sizes::IMAGE_SIZE;
@@ -99,36 +98,6 @@ fn put_resource(bytes: &mut [u8], at: usize, r: Resource)
     put_queue(bytes, at + 5, queue);
 }
 
-fn put_servers(bytes: &mut [u8], n: usize, servers: [Server; 16])
-    requires { ⌜ (length (now bytes) ≡ imageSize) × (n ≤ 16) ⌝ }
-    ensures { λ _. ⌜ now (bytes .exit) ≡ stored (now (bytes .entry)) serversOffset (entries serverBytes noServer n servers) ⌝ }
-{
-    for i in 0..n {
-        let s = servers[i];
-        put_server(bytes, SERVERS_OFFSET + SERVER_SIZE * i, s);
-    }
-}
-
-fn put_tasks(bytes: &mut [u8], n: usize, tasks: [Task; 16])
-    requires { ⌜ (length (now bytes) ≡ imageSize) × (n ≤ 16) ⌝ }
-    ensures { λ _. ⌜ now (bytes .exit) ≡ stored (now (bytes .entry)) tasksOffset (entries taskBytes noTask n tasks) ⌝ }
-{
-    for i in 0..n {
-        let t = tasks[i];
-        put_task(bytes, TASKS_OFFSET + TASK_SIZE * i, t);
-    }
-}
-
-fn put_resources(bytes: &mut [u8], n: usize, resources: [Resource; 16])
-    requires { ⌜ (length (now bytes) ≡ imageSize) × (n ≤ 16) ⌝ }
-    ensures { λ _. ⌜ now (bytes .exit) ≡ stored (now (bytes .entry)) resourcesOffset (entries resourceBytes noResource n resources) ⌝ }
-{
-    for i in 0..n {
-        let r = resources[i];
-        put_resource(bytes, RESOURCES_OFFSET + RESOURCE_SIZE * i, r);
-    }
-}
-
 // The header and the entries in use in place of their bytes, and whether the bytes were as many as a state takes; where they were not, nothing is written.
 pub fn write(st: State, bytes: &mut [u8]) -> bool
     ensures answer { λ r. ⌜ r ≡ eqb (length (now (bytes .entry))) imageSize ⌝ }
@@ -137,17 +106,23 @@ pub fn write(st: State, bytes: &mut [u8]) -> bool
     if bytes.len() != IMAGE_SIZE {
         return false;
     }
-    let servers = st.server;
-    let tasks = st.task;
-    let resources = st.resource;
     let tasks_used = used(st.tasks);
     let resources_used = used(st.resources);
     put_two(bytes, 0, st.processors);
     put_two(bytes, 2, st.tasks);
     put_two(bytes, 4, st.resources);
     put_four(bytes, 6, st.clock);
-    put_servers(bytes, tasks_used, servers);
-    put_tasks(bytes, tasks_used, tasks);
-    put_resources(bytes, resources_used, resources);
+    for i in 0..tasks_used {
+        let s = st.server[i];
+        put_server(bytes, SERVERS_OFFSET + SERVER_SIZE * i, s);
+    }
+    for i in 0..tasks_used {
+        let t = st.task[i];
+        put_task(bytes, TASKS_OFFSET + TASK_SIZE * i, t);
+    }
+    for i in 0..resources_used {
+        let r = st.resource[i];
+        put_resource(bytes, RESOURCES_OFFSET + RESOURCE_SIZE * i, r);
+    }
     true
 }

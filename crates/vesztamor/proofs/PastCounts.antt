@@ -44,12 +44,11 @@ module _ (kept : CountsKept) (e : Event) where
       : (a b : List ℕ) (st : State) → decoded a ≡ some st → AlikeInUse a b → Both (stepLeft (stepped st e) a) (stepLeft (stepped st e) b)
   done-both a b st d alike =
       let counts = decoded-counts a st d in
-      let k = kept st e in
-      (
+      let k = kept st e in (
         refl,
         split (isRefused (stepped st e .answer))
-        (λ y. rw y alike)
-        (λ n. rw n (encoded-alike (stepped st e .state) a b (k .0 ∙ counts .0) (k .1 ∙ counts .1) (decoded-long a st d) alike)),
+            (λ y. rw y alike)
+            (λ n. rw n (encoded-alike (stepped st e .state) a b (k .0 ∙ counts .0) (k .1 ∙ counts .1) (decoded-long a st d) alike)),
       )
 
   done-past : (bytes : List ℕ) (st : State) → decoded bytes ≡ some st → SamePast bytes (stepLeft (stepped st e) bytes .bytes)
