@@ -28,18 +28,24 @@ module _ (file lent : List ℕ) (r : Replayed) (l : room (length file) ≤ lengt
   whole-fits : (n : ℕ) → r ≡ Written n → n ≤ length lent
   whole-fits n f = written-fits file lent n (cc)
 
+too-short : tie.Need-returns
+too-short c =
+    let call = c .before .before .before .before in
+    let start = call .before .before .before .before in
+    never-short (start .args .file .now) (start .args .out .now) _ (start .pre) (call .replay .ensures .0) (c .enum-told .given .1)
+
+whole : tie.Need-returns-2
+whole c =
+    let call = c .before .before .before .before .before in
+    let start = call .before .before .before .before in
+    let fits = whole-fits (start .args .file .now) (start .args .out .now) _ (start .pre) (call .replay .ensures .0) _ (c .before .n .given .1) in
+    (whole-text (start .args .file .now) (start .args .out .now) _ (start .pre) (call .replay .ensures .0) _ _ (call .replay .ensures .1 .0) (c .before .n .given .1), omega (arith, fits))
+
 pub put-whole-spec : {M : Type 1} → statement M
 put-whole-spec =
     tie.close
     (tie.spec
     (λ c κs. search needs) (λ c. search needs) (λ c. search needs) (λ c. search needs)
-    (λ c.
-    let call = c .before .before .before .before in
-    let start = call .before .before .before .before in
-    never-short (start .args .file .now) (start .args .out .now) _ (start .pre) (call .replay .ensures .0) (c .enum-told .given .1))
+    too-short
     (λ c. search needs)
-    (λ c.
-    let call = c .before .before .before .before .before in
-    let start = call .before .before .before .before in
-    let fits = whole-fits (start .args .file .now) (start .args .out .now) _ (start .pre) (call .replay .ensures .0) _ (c .before .n .given .1) in
-    (whole-text (start .args .file .now) (start .args .out .now) _ (start .pre) (call .replay .ensures .0) _ _ (call .replay .ensures .1 .0) (c .before .n .given .1), omega (arith, fits))))
+    whole)
