@@ -1,11 +1,11 @@
 -- Stacks and owners, queues and waits: when every entry is its holder's and no entry stands twice, and there are as many entries as owned items,
 -- then each holder has each item once where it owns it and not at all where not; and back. Said once, for any holders and items. Assumes nothing.
 use mathlib.Core.Path.{_≡_, refl, sym, ap, _∙_}
-use mathlib.Core.Bool.{Bool, true, false, _&&_}
+use mathlib.Core.Bool.{Bool, true, _&&_}
 use Prim.Native.Nat.{ℕ, _<_, _≤_}
 use native.Mathlib.Omega.{arith}
 use lib.Dec.{ltb, eqb}
-use borrow.Author.Tests.{ltb-true, ltb-false, lt-ltb, le-ltb, eqb-true, eqb-false, eq-eqb, ne-eqb}
+use borrow.Author.Tests.{ltb-true, ltb-false, lt-ltb, eqb-true, eqb-false, eq-eqb, ne-eqb}
 use Rattle.laws.specs.Tests.{if_then_else_, bit}
 use Rattle.laws.specs.Loops.{countTo, sumTo}
 use Rattle.laws.proofs.Cases.{split, if-yes, if-no, holds-fails, unheld-fails, and-left, and-right, and-both}
