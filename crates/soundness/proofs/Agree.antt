@@ -31,6 +31,11 @@ module _ (size : ℕ → ℕ) (entry : ℕ → ℕ → ℕ) where
   pub has-entry : (t r j : ℕ) → hasAt t r j ≡ true → entry t j ≡ r
   has-entry t r j h = eqb-true (entry t j) r (and-right (ltb j (size t)) _ h)
 
+  -- what is no entry of t it has not at all
+  pub times-none : (t r : ℕ) → ((j : ℕ) → j < size t → entry t j ≡ r → ⊥) → times t r ≡ 0
+  times-none t r none =
+      count-zero places (hasAt t r) (λ j l. unheld-fails (hasAt t r j) (λ h. none j (has-below t r j h) (has-entry t r j h)))
+
   -- over all items, t has as many as it has entries
   all-times : (t : ℕ) → size t ≤ places → ((j : ℕ) → j < size t → entry t j < places) → sumTo places (times t) ≡ size t
   all-times t l inside =
@@ -139,21 +144,7 @@ module _
               own t y .1 j (has-below size entry t r j b) .2 i l (has-entry size entry t r i a ∙ sym (has-entry size entry t r j b)))))
               (λ n.
               rw n
-              (omega (
-                arith,
-                count-zero
-                    places
-                    (hasAt size entry t r)
-                    (λ j l.
-                    unheld-fails
-                    (hasAt size entry t r j)
-                    (λ h.
-                    eqb-false
-                    (owner r)
-                    t
-                    n
-                    (ap owner (sym (has-entry size entry t r j h)) ∙ own t y .1 j (has-below size entry t r j h) .0))),
-              )))
+              (omega (arith, times-none size entry t r (λ j l e. eqb-false (owner r) t n (ap owner (sym e) ∙ own t y .1 j l .0)))))
 
       rows : (t : ℕ) → sumTo places (has t) ≡ sizes t
       rows t = has-all t (λ y. (own t y .0, λ j l. own t y .1 j l .1))
@@ -240,15 +231,6 @@ module _
                     (item r)
                     (λ i. once t y r i)
                     (λ n.
-                    count-zero
-                    places
-                    (hasAt size entry t r)
-                    (λ j k.
-                    unheld-fails
-                    (hasAt size entry t r j)
-                    (λ h.
-                    holds-fails
-                    (ap item (sym (has-entry size entry t r j h)) ∙ entry-item t j y (has-below size entry t r j h))
-                    n))
+                    times-none size entry t r (λ j k e. holds-fails (ap item (sym e) ∙ entry-item t j y k) n)
                     ∙ sym
                     (ap bit (ne-eqb (owner r) t (λ e. holds-fails (owned-item r m (rw e l)) n))))
