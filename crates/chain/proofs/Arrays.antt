@@ -16,7 +16,7 @@ use Rattle.model.specs.declared.TaskNo.{TaskNo}
 use Rattle.model.specs.declared.ServerNo.{ServerNo}
 use Rattle.model.specs.declared.Server.{Server}
 use Rattle.model.specs.declared.State.{State}
-use Rattle.model.specs.State.{places, nobody, noServer, here, present, inUse, running, ownerNo, placeNo, resourceAt, awaited, taskAt, ownerOf, next, chainEnd, served, runningAt, executorOf}
+use Rattle.model.specs.State.{places, nobody, noServer, here, present, inUse, running, ownerNo, placeNo, resourceAt, taskAt, ownerOf, next, chainEnd, served, runningAt, executorOf}
 use Rattle.model.proofs.Chain.{here-below, owner-past, next-past, present-past, here-past, served-below}
 use Rattle.chain.specs.Arrays.{arrayOf, taskOf, tasksOf, serverOf, serversOf, ownersOf, wanted, wantedOf, endsOf, executorAt, executorsOf, runsFor, onAt, onBy}
 use Rattle.chain.specs.Computed.{numberAt, numbersOf, atOrNobody, linkAt, linksBy, endStep, endBy, endsBy}
@@ -165,20 +165,6 @@ pub end-more : (links : List ℕ) (t left r : ℕ) → (left ≡ 0 → ⊥) → 
 unfolding endBy
 end-more links t zero r f e = absurd (f refl)
 end-more links t (suc left) r f e = e ∙ ap (λ k. endStep (endBy k links) links t) (sub-one (suc left))
-
--- a walk from a number that fits ends at one that fits
-pub end-fits : (left : ℕ) (links : List ℕ) (t n : ℕ) → t < n → places ≤ n → endBy left links t < n
-unfolding endBy endStep
-end-fits zero links t n l h = l
-end-fits (suc left) links t n l h =
-    split
-    (ltb t places)
-    (λ y.
-    split
-    (ltb (getD links t 0) places)
-    (λ z. rw (y, z) (end-fits left links (getD links t 0) n (let k : getD links t 0 < places = ltb-true _ _ z in omega arith) h))
-    (λ z. rw (y, z) l))
-    (λ y. rw y l)
 
 -- what a turn of each loop stores at a number in use, for the code
 pub owner-read

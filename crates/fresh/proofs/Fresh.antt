@@ -8,19 +8,19 @@ use native.Mathlib.Omega.{arith}
 use lib.Dec.{ltb}
 use lib.ListN.{length, replicate, getD-replicate}
 use borrow.Author.Tests.{ltb-true, lt-ltb, le-ltb, ne-eqb}
-use Rattle.laws.specs.Tests.{if_then_else_, bit}
-use Rattle.laws.specs.Loops.{countTo, setTo}
+use Rattle.laws.specs.Tests.{bit}
+use Rattle.laws.specs.Loops.{countTo}
 use Rattle.laws.proofs.Cases.{split, if-yes}
 use Rattle.laws.proofs.Count.{count-zero}
 use Rattle.laws.proofs.Set.{set-at, length-setTo}
 use Rattle.laws.proofs.Reflect.{reflects-false}
 use Rattle.model.specs.declared.Table.{Table}
 use Rattle.model.specs.declared.State.{State}
-use Rattle.model.specs.State.{places, nobody, serverAt, taskAt, resourceAt, here, present, noServer, noTask, noResource, ownerOf, next, served, runningAt}
+use Rattle.model.specs.State.{places, nobody, serverAt, taskAt, resourceAt, here, present, noServer, noTask, noResource, next, served, runningAt}
 use Rattle.model.specs.Sound.{quotaFits, declaredFits, heldAt, queuedAt, sound}
 use Rattle.model.specs.Shape.{Shaped}
 use Rattle.model.specs.Fresh.{entryAt, countsRefusal, entryRefusal, freshRefusal, blankServer, blankTask, blankResource, freshServer, freshTask, freshServerAt, freshTaskAt, freshState, unusable}
-use Rattle.model.proofs.Chain.{here-below, here-tasks, present-below, owner-past, present-past, next-past, end-itself}
+use Rattle.model.proofs.Chain.{here-below, here-tasks, present-below, owner-past, present-past, end-itself}
 use Rattle.model.proofs.Sound.{Counts, counts-fact, Quota, quota-fact, Sound, sound-facts}
 use Rattle.fresh.proofs.Refusals.{counts-fit, tests-none, entry-none}
 

@@ -4,7 +4,7 @@ use mathlib.Core.Path.{_≡_, sym, _∙_}
 use mathlib.Core.List.{List}
 use Prim.Native.Nat.{ℕ, _+_, _<_, _≤_}
 use native.Mathlib.Omega.{arith}
-use lib.ListN.{getD, length, set, replicate, length-replicate}
+use lib.ListN.{getD, set, replicate, length-replicate}
 use Rattle.laws.specs.Loops.{setTo, madeBy}
 use Rattle.laws.proofs.Lists.{replicate-at}
 use Rattle.laws.proofs.Set.{set-none, set-more, set-done, set-at, set-skip}

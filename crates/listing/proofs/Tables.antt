@@ -1,7 +1,7 @@
 -- What reading a table finds. Fresh, asked of the counts alone and then of the table so far, refuses what the definitions refuse record by record; and
 -- it never refuses a table that was read whole without a refusal (`whole-accepted`). Assumes nothing.
-use mathlib.Core.Path.{_≡_, refl, sym, ap, _∙_}
-use mathlib.Core.Bool.{true, false}
+use mathlib.Core.Path.{_≡_, refl, ap, _∙_}
+use mathlib.Core.Bool.{true}
 use mathlib.Core.Option.{Option, none, some}
 use mathlib.Core.Logic.{⊎-elim}
 use Prim.Native.Nat.{ℕ, zero, suc, _+_, _<_, _≤_, _^_}

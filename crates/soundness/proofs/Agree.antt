@@ -1,11 +1,11 @@
 -- Stacks and owners, queues and waits: when every entry is its holder's and no entry stands twice, and there are as many entries as owned items,
 -- then each holder has each item once where it owns it and not at all where not; and back. Said once, for any holders and items. Assumes nothing.
 use mathlib.Core.Path.{_≡_, refl, sym, ap, _∙_}
-use mathlib.Core.Bool.{Bool, true, false, _&&_}
+use mathlib.Core.Bool.{Bool, true, _&&_}
 use Prim.Native.Nat.{ℕ, _<_, _≤_}
 use native.Mathlib.Omega.{arith}
 use lib.Dec.{ltb, eqb}
-use borrow.Author.Tests.{ltb-true, ltb-false, lt-ltb, le-ltb, eqb-true, eqb-false, eq-eqb, ne-eqb}
+use borrow.Author.Tests.{ltb-true, ltb-false, lt-ltb, eqb-true, eqb-false, eq-eqb, ne-eqb}
 use Rattle.laws.specs.Tests.{if_then_else_, bit}
 use Rattle.laws.specs.Loops.{countTo, sumTo}
 use Rattle.laws.proofs.Cases.{split, if-yes, if-no, holds-fails, unheld-fails, and-left, and-right, and-both}
@@ -30,6 +30,11 @@ module _ (size : ℕ → ℕ) (entry : ℕ → ℕ → ℕ) where
 
   pub has-entry : (t r j : ℕ) → hasAt t r j ≡ true → entry t j ≡ r
   has-entry t r j h = eqb-true (entry t j) r (and-right (ltb j (size t)) _ h)
+
+  -- what is no entry of t it has not at all
+  pub times-none : (t r : ℕ) → ((j : ℕ) → j < size t → entry t j ≡ r → ⊥) → times t r ≡ 0
+  times-none t r none =
+      count-zero places (hasAt t r) (λ j l. unheld-fails (hasAt t r j) (λ h. none j (has-below t r j h) (has-entry t r j h)))
 
   -- over all items, t has as many as it has entries
   all-times : (t : ℕ) → size t ≤ places → ((j : ℕ) → j < size t → entry t j < places) → sumTo places (times t) ≡ size t
@@ -139,21 +144,7 @@ module _
               own t y .1 j (has-below size entry t r j b) .2 i l (has-entry size entry t r i a ∙ sym (has-entry size entry t r j b)))))
               (λ n.
               rw n
-              (omega (
-                arith,
-                count-zero
-                    places
-                    (hasAt size entry t r)
-                    (λ j l.
-                    unheld-fails
-                    (hasAt size entry t r j)
-                    (λ h.
-                    eqb-false
-                    (owner r)
-                    t
-                    n
-                    (ap owner (sym (has-entry size entry t r j h)) ∙ own t y .1 j (has-below size entry t r j h) .0))),
-              )))
+              (omega (arith, times-none size entry t r (λ j l e. eqb-false (owner r) t n (ap owner (sym e) ∙ own t y .1 j l .0)))))
 
       rows : (t : ℕ) → sumTo places (has t) ≡ sizes t
       rows t = has-all t (λ y. (own t y .0, λ j l. own t y .1 j l .1))
@@ -240,15 +231,6 @@ module _
                     (item r)
                     (λ i. once t y r i)
                     (λ n.
-                    count-zero
-                    places
-                    (hasAt size entry t r)
-                    (λ j k.
-                    unheld-fails
-                    (hasAt size entry t r j)
-                    (λ h.
-                    holds-fails
-                    (ap item (sym (has-entry size entry t r j h)) ∙ entry-item t j y (has-below size entry t r j h))
-                    n))
+                    times-none size entry t r (λ j k e. holds-fails (ap item (sym e) ∙ entry-item t j y k) n)
                     ∙ sym
                     (ap bit (ne-eqb (owner r) t (λ e. holds-fails (owned-item r m (rw e l)) n))))

@@ -1,18 +1,17 @@
 -- The tests of specs/Computed.antt as facts, a law each way (`Reflects`). Assumes nothing.
 use mathlib.Core.Path.{_≡_, refl, sym, ap, _∙_}
-use mathlib.Core.Bool.{Bool, true, false, not, _&&_, _||_, true≢false}
+use mathlib.Core.Bool.{true, _&&_, _||_, true≢false}
 use mathlib.Core.List.{List}
 use mathlib.Core.Logic.{_⊎_}
-use Prim.Native.Nat.{ℕ, _+_, _<_, _≤_}
+use Prim.Native.Nat.{ℕ, _<_, _≤_}
 use native.Mathlib.Omega.{arith}
-use lib.Dec.{ltb, leb, eqb}
-use lib.ListN.{getD, replicate}
-use borrow.Author.Tests.{ltb-true, ltb-false, lt-ltb, le-ltb}
-use Rattle.laws.specs.Tests.{if_then_else_, bit, _implies_, _iff_}
+use lib.Dec.{ltb, eqb}
+use lib.ListN.{getD}
+use borrow.Author.Tests.{lt-ltb}
+use Rattle.laws.specs.Tests.{bit, _implies_, _iff_}
 use Rattle.laws.specs.Loops.{countTo, sumTo}
-use Rattle.laws.proofs.Cases.{split, and-left}
+use Rattle.laws.proofs.Cases.{split}
 use Rattle.laws.proofs.Count.{count-ext, count-sum}
-use Rattle.laws.proofs.Set.{set-at}
 use Rattle.laws.proofs.Reflect.{Reflects, reflects-self, reflects-le, reflects-lt, reflects-eq, reflects-change, reflects-not, reflects-and, reflects-or, reflects-implies, reflects-iff, reflects-all}
 use Rattle.model.specs.declared.Phase.{Phase}
 use Rattle.model.specs.declared.Phase.the-variants.{Idle, Active, Running, Recharging}
@@ -22,12 +21,9 @@ use Rattle.model.specs.declared.Runs.{Runs}
 use Rattle.model.specs.declared.Runs.the-variants.{Nowhere, In}
 use Rattle.model.specs.declared.Owner.{Owner}
 use Rattle.model.specs.declared.Owner.the-variants.{Nobody, By}
-use Rattle.model.specs.declared.TaskNo.{TaskNo}
 use Rattle.model.specs.declared.State.{State}
-use Rattle.model.specs.State.{places, nobody, serverAt, taskAt, resourceAt, inUse, inSet, here, present, idle, running, recharging, suspended, waiting, awaited, owned, placed, placeNo, ownerOf, served, runningAt}
-use Rattle.model.specs.Sound.{sizesFit}
-use Rattle.model.proofs.Chain.{here-below, served-below, Open, here-past}
-use Rattle.model.proofs.Sound.{Each, EachResource, each-fact, each-resource-fact}
+use Rattle.model.specs.State.{places, inUse, inSet, idle, running, recharging, suspended, waiting, awaited, owned, placed, placeNo, runningAt}
+use Rattle.model.proofs.Chain.{served-below}
 use Rattle.chain.specs.Arrays.{arrayOf, runsFor}
 use Rattle.chain.specs.Computed.{atOrNobody}
 use Rattle.chain.proofs.Arrays.{array-at}

@@ -4,7 +4,6 @@ use mathlib.Core.Bool.{true}
 use Prim.Native.Nat.{ℕ, _+_, _<_, _≤_}
 use lib.Dec.{leb, eqb}
 use lib.ListN.{getD}
-use Rattle.laws.specs.Tests.{if_then_else_}
 use Rattle.laws.specs.Loops.{sumTo}
 use Rattle.laws.proofs.Reflect.{Reflects, reflects-self, reflects-le, reflects-lt, reflects-eq, reflects-change, reflects-and, reflects-iff}
 use Rattle.model.specs.declared.State.{State}

@@ -1,19 +1,19 @@
 -- The tests of the code come to the definition of soundness: `passes-sound`. The two ways between `Passed` and `Sound`. Assumes nothing.
 use mathlib.Core.Path.{_≡_, refl, sym, ap, _∙_}
-use mathlib.Core.Bool.{Bool, true, false, _&&_}
+use mathlib.Core.Bool.{Bool, true, _&&_}
 use mathlib.Core.Logic.{_⊎_, inl, inr, ⊎-elim}
-use Prim.Native.Nat.{ℕ, _<_, _≤_}
+use Prim.Native.Nat.{ℕ, _<_}
 use native.Mathlib.Omega.{arith}
 use lib.Dec.{ltb, eqb}
 use lib.ListN.{getD}
 use borrow.Author.Tests.{ltb-true, eqb-true, eq-eqb}
-use Rattle.laws.specs.Tests.{if_then_else_, bit}
-use Rattle.laws.specs.Loops.{countTo, allTo}
+use Rattle.laws.specs.Tests.{bit}
+use Rattle.laws.specs.Loops.{allTo}
 use Rattle.laws.proofs.Cases.{split, if-yes, tests-same, and-left, and-right, and-both}
 use Rattle.laws.proofs.All.{all-at}
 use Rattle.laws.proofs.Count.{count-found}
 use Rattle.model.specs.declared.State.{State}
-use Rattle.model.specs.State.{places, nobody, taskAt, resourceAt, inSet, here, present, declares, awaited, ownerNo, placed, placeNo, running, serverAt, ownerOf, served, runningAt, runningFor, waiting, owned}
+use Rattle.model.specs.State.{places, taskAt, resourceAt, inSet, here, present, declares, awaited, ownerNo, placed, placeNo, ownerOf, runningAt, runningFor, owned}
 use Rattle.model.specs.Sound.{heldAt, queuedAt, sound}
 use Rattle.model.proofs.Chain.{here-below, present-below, owner-here, owner-past}
 use Rattle.model.proofs.Sound.{Each, Wait, Loose, Sound, sound-facts, Agree, Declared, Owned, Executor}
@@ -21,9 +21,9 @@ use Rattle.chain.specs.Arrays.{arrayOf, wanted, wantedOf, runsFor}
 use Rattle.chain.specs.Computed.{numbersOf, atOrNobody}
 use Rattle.chain.proofs.Arrays.{owner-is, wanted-is, runs-for-is, number-at}
 use Rattle.soundness.specs.Computed.{everyBit, passes}
-use Rattle.soundness.proofs.Agree.{times, hasAt, has-below, has-entry, Own, Totals, Fits, Once, own-fits, own-once, fits-own, fits-totals}
+use Rattle.soundness.proofs.Agree.{hasAt, has-below, has-entry, Own, Fits, Once, own-fits, own-once, fits-own, fits-totals}
 use Rattle.soundness.proofs.Facts.{Members, awaited-waiting}
-use Rattle.soundness.proofs.Passed.{depth, held, waiters, queued, Waits, TaskFacts, ResourceFacts, ServerFacts, Passed, passed-facts}
+use Rattle.soundness.proofs.Passed.{depth, held, waiters, queued, Waits, Passed, passed-facts}
 
 module _ (st : State) where
   -- the owner in force of a resource in use is in use

@@ -97,37 +97,46 @@ module _ (used passed : ℕ → Bool) (size : ℕ → ℕ) where
   pub so-far-none : SoFar 0 0
   so-far-none = record { inside = omega arith; most = omega arith; each = all-none guarded; sum = sum-none counted }
 
+  pub so-far-fails : (i : ℕ) (rest : Bool) → i < places → used i ≡ true → passed i ≡ false → false ≡ (allTo places guarded && rest)
+  so-far-fails i rest l u p = rw (← (all-fails guarded places i l (sym (rw (u, p)))))
+
+module _ {used passed : ℕ → Bool} {size : ℕ → ℕ} {i total : ℕ} where
   pub so-far-more
-      : (i total now : ℕ)
+      : {now : ℕ}
       → i < places
       → used i ≡ true
       → passed i ≡ true
       → size i ≤ places
       → now ≡ total + size i
-      → SoFar i total
-      → SoFar (i + 1) now
-  so-far-more i total now l u p m e h = record {
+      → SoFar used passed size i total
+      → SoFar used passed size (i + 1) now
+  so-far-more l u p m e h = record {
     inside = omega arith;
     most = omega (arith, h .most);
-    each = all-more guarded i (sym (rw (u, p))) (h .each);
-    sum = e ∙ sum-more counted i total (size i) (sym (if-yes _ _ _ u)) (h .sum);
+    each = all-more (guarded used passed size) i (sym (rw (u, p))) (h .each);
+    sum = e ∙ sum-more (counted used passed size) i total (size i) (sym (if-yes _ _ _ u)) (h .sum);
   }
 
-  pub so-far-skip : (i total now : ℕ) → i < places → used i ≡ false → now ≡ total → SoFar i total → SoFar (i + 1) now
-  so-far-skip i total now l u e h = record {
+  pub so-far-skip : {now : ℕ} → i < places → used i ≡ false → now ≡ total → SoFar used passed size i total → SoFar used passed size (i + 1) now
+  so-far-skip l u e h = record {
     inside = omega arith;
     most = omega (arith, h .most);
-    each = all-more guarded i (sym (rw u)) (h .each);
-    sum = e ∙ sym (add-zero total) ∙ sum-more counted i total 0 (sym (if-no _ _ _ u)) (h .sum);
+    each = all-more (guarded used passed size) i (sym (rw u)) (h .each);
+    sum = e ∙ sym (add-zero total) ∙ sum-more (counted used passed size) i total 0 (sym (if-no _ _ _ u)) (h .sum);
   }
-
-  pub so-far-fails : (i : ℕ) (rest : Bool) → i < places → used i ≡ true → passed i ≡ false → false ≡ (allTo places guarded && rest)
-  so-far-fails i rest l u p = rw (← (all-fails guarded places i l (sym (rw (u, p)))))
 
   pub so-far-done
-      : (i total n m : ℕ) → places ≤ i → SoFar i total → n ≡ m → eqb total n ≡ (allTo places guarded && eqb (sumTo places counted) m)
-  so-far-done i total n m g h e =
-      rw (← (all-done guarded i places (h .inside) g (h .each)), ← (sum-done counted i places total (h .inside) g (h .sum)), e)
+      : (n m : ℕ)
+      → places ≤ i
+      → SoFar used passed size i total
+      → n ≡ m
+      → eqb total n ≡ (allTo places (guarded used passed size) && eqb (sumTo places (counted used passed size)) m)
+  so-far-done n m g h e =
+      rw (
+        ← (all-done (guarded used passed size) i places (h .inside) g (h .each)),
+        ← (sum-done (counted used passed size) i places total (h .inside) g (h .sum)),
+        e,
+      )
 
 -- what the code reads of a task and of a resource is the state's, and one that passes has a stack or a queue that fits
 pub task-read

@@ -1,7 +1,7 @@
 -- Soundness as the code tests it: sizes, then tasks, resources and servers, each group in one pass. Where the definition asks of each task and each
 -- resource whether a stack or queue agrees, these ask of each entry, and compare totals; proofs/Same.antt says that it comes to the same.
 -- Assumes nothing.
-use mathlib.Core.Bool.{Bool, true, false, not, _&&_}
+use mathlib.Core.Bool.{Bool, true, not, _&&_}
 use mathlib.Core.List.{List}
 use Prim.Native.Nat.{ℕ, _+_}
 use lib.Dec.{ltb, leb, eqb}

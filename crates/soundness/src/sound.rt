@@ -1,5 +1,5 @@
 // The soundness test (rules 4.1 to 4.16). Sizes first, so that the rest knows them; then tasks with their stacks, resources with their queues, and
-// servers with the chains. A state goes to no loop's functions but the loop's own. Assumes nothing.
+// servers with the chains. No state is handed on inside a loop: a copy of it there would cost more than the test. Assumes nothing.
 ghost use mathlib.Core.Path.{_≡_};
 ghost use Prim.Native.Nat.{_≤_};
 ghost use mathlib.Core.Bool.{_&&_};

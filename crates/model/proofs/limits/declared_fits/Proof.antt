@@ -1,6 +1,6 @@
 -- `model::limits::declared_fits` meets its contract: nothing is left of the set above the resources' bits. Assumes nothing.
 use mathlib.Core.Path.{_≡_, sym, _∙_}
-use Prim.Native.Nat.{ℕ, zero, _/_, _<_}
+use Prim.Native.Nat.{ℕ, _/_, _<_}
 use native.Mathlib.Nat.{div-eq-of-lt, div-lt-iff-lt-mul, one-mul}
 use lib.Pow.{pow-pos}
 use native.Mathlib.Omega.{arith}

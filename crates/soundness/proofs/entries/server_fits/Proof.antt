@@ -2,7 +2,6 @@
 use mathlib.Core.Path.{sym, _∙_}
 use borrow.Author.Needs.{needs}
 use borrow.Author.Tests.{le-leb, lt-leb, not-true, not-false}
-use native.Mathlib.Omega.{arith}
 use Rattle.soundness.proofs.entries.server_fits.Statement.{statement}
 use Rattle.soundness.proofs.entries.server_fits.Tie as tie
 

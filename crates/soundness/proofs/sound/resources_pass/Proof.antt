@@ -1,5 +1,5 @@
 -- `soundness::sound::resources_pass` meets its contract. Assumes nothing.
-use mathlib.Core.Path.{_≡_, sym, ap, _∙_}
+use mathlib.Core.Path.{sym, ap, _∙_}
 use mathlib.Core.Logic.{⊎-elim}
 use Prim.Native.Nat.{_-_}
 use borrow.Author.Needs.{needs}
@@ -45,26 +45,14 @@ resources-pass-spec =
     ))
     (λ c. omega arith) (λ c. omega arith)
     (λ c.
-    let turn = c .before in
-    let start = turn .before .before .before .before in
+    let turn = c .before .before in
+    let test = sym (c .before .in-use .ensures) in
+    let pre = turn .before .before .before .pre in
     ⊎-elim
     (λ w.
-    let passed =
-    sym (resource-read _ _ _ _ _ (turn .before .loop-test .taken) (start .pre .0) (start .pre .1) (w .3 .ensures)) ∙ not-false _ (w .4 .left) in
-    so-far-more _ _ _ _ _ _
-    (turn .before .loop-test .taken)
-    (sym (turn .in-use .ensures) ∙ w .0 .taken)
-    passed
-    (resource-waiting _ _ passed)
-    (w .6)
-    (turn .before .before .loop .inv))
-    (λ w.
-    so-far-skip _ _ _ _ _ _ (turn .before .loop-test .taken) (sym (turn .in-use .ensures) ∙ w .0 .left) (w .1) (turn .before .before .loop .inv))
+    let passed = sym (resource-read _ _ _ _ _ (turn .loop-test .taken) (pre .0) (pre .1) (w .3 .ensures)) ∙ not-false _ (w .4 .left) in
+    so-far-more (turn .loop-test .taken) (test ∙ w .0 .taken) passed (resource-waiting _ _ passed) (w .6) (turn .before .loop .inv))
+    (λ w. so-far-skip (turn .loop-test .taken) (test ∙ w .0 .left) (w .1) (turn .before .loop .inv))
     (c .if1 .came))
     (λ c κs. search needs)
-    (λ c.
-    let start = c .before .before .before .before in
-    so-far-done (present (start .args .st)) (resourcePassesAt (start .args .st)) (waiters (start .args .st)) _ _ _ _
-    (c .before .loop-test .left)
-    (c .before .before .loop .inv)
-    (c .used .ensures ∙ ap usedIn (start .pre .1))))
+    (λ c. so-far-done _ _ (c .before .loop-test .left) (c .before .before .loop .inv) (c .used .ensures ∙ ap usedIn (c .before .before .before .before .pre .1))))

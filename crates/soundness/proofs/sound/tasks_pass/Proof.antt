@@ -1,5 +1,5 @@
 -- `soundness::sound::tasks_pass` meets its contract. Assumes nothing.
-use mathlib.Core.Path.{_≡_, sym, ap, _∙_}
+use mathlib.Core.Path.{sym, ap, _∙_}
 use mathlib.Core.Logic.{⊎-elim}
 use Prim.Native.Nat.{_-_}
 use borrow.Author.Needs.{needs}
@@ -43,25 +43,13 @@ tasks-pass-spec =
     ))
     (λ c. omega arith) (λ c. omega arith)
     (λ c.
-    let turn = c .before in
-    let start = turn .before .before .before .before in
+    let turn = c .before .before in
+    let test = sym (c .before .in-use .ensures) in
     ⊎-elim
     (λ w.
-    let passed = sym (task-read _ _ _ _ (start .pre .0) (w .2 .ensures)) ∙ not-false _ (w .3 .left) in
-    so-far-more _ _ _ _ _ _
-    (turn .before .loop-test .taken)
-    (sym (turn .in-use .ensures) ∙ w .0 .taken)
-    passed
-    (task-depth _ _ passed)
-    (w .5)
-    (turn .before .before .loop .inv))
-    (λ w.
-    so-far-skip _ _ _ _ _ _ (turn .before .loop-test .taken) (sym (turn .in-use .ensures) ∙ w .0 .left) (w .1) (turn .before .before .loop .inv))
+    let passed = sym (task-read _ _ _ _ (turn .before .before .before .pre .0) (w .2 .ensures)) ∙ not-false _ (w .3 .left) in
+    so-far-more (turn .loop-test .taken) (test ∙ w .0 .taken) passed (task-depth _ _ passed) (w .5) (turn .before .loop .inv))
+    (λ w. so-far-skip (turn .loop-test .taken) (test ∙ w .0 .left) (w .1) (turn .before .loop .inv))
     (c .if1 .came))
     (λ c κs. search needs)
-    (λ c.
-    let start = c .before .before .before .before in
-    so-far-done (here (start .args .st)) (taskPassesAt (start .args .st)) (depth (start .args .st)) _ _ _ _
-    (c .before .loop-test .left)
-    (c .before .before .loop .inv)
-    (c .used .ensures ∙ ap usedIn (start .pre .0))))
+    (λ c. so-far-done _ _ (c .before .loop-test .left) (c .before .before .loop .inv) (c .used .ensures ∙ ap usedIn (c .before .before .before .before .pre .0))))
