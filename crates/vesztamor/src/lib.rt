@@ -4,6 +4,7 @@ mod answers;
 pub mod bounds;
 pub mod replaying;
 mod sections;
+mod sound;
 pub mod states;
 pub mod stepping;
 mod tables;
