@@ -13,7 +13,7 @@ use Rattle.model.specs.Fresh.{blankServer, blankTask, blankResource}
 use Rattle.image.specs.Layout.{headerSize, serverSize, taskSize, resourceSize, serversOffset, tasksOffset, resourcesOffset, used}
 use Rattle.image.specs.Decoded.{tasksUsed, resourcesUsed}
 
--- byte i is one of the first n entries of one size from an offset on
+-- byte i lies in one of the first n entries of one size from an offset on
 abbrev pub isWithin : ℕ → ℕ → ℕ → ℕ → Bool
 isWithin offset size n i = leb offset i && ltb i (offset + size * n)
 

@@ -5,6 +5,7 @@ pub mod bounds;
 pub mod metering;
 pub mod replaying;
 mod sections;
+mod sound;
 pub mod states;
 pub mod stepping;
 mod tables;

@@ -2,11 +2,11 @@
 // under one lock of its own: they keep nothing between calls. Assumes nothing.
 ghost use mathlib.Core.Path.{_≡_};
 ghost use lib.ListN.{length, replicate};
-ghost use Rattle.image.specs.Decoded.{decoded};
 ghost use Rattle.vesztamor.specs.Packed.{packed};
-ghost use Rattle.vesztamor.specs.Exported.{freshExport, isSoundIn, soundExport, executingExport};
+ghost use Rattle.vesztamor.specs.Exported.{freshExport, soundExport, executingExport};
 use crate::answers::doing_answer;
 use crate::answers::refusal;
+use crate::sound::holds_sound;
 use crate::tables::is_table;
 use crate::tables::table_in;
 use image::ImageAnswer;
@@ -49,19 +49,6 @@ pub extern "C" fn vesztamor_fresh(table: &[u8], state: &mut [u8]) -> u64
 }
 
 // Whether the bytes hold a sound state.
-pub fn holds_sound(state: &[u8]) -> bool
-    ensures { λ r. ⌜ r ≡ isSoundIn (decoded (now (state .entry))) ⌝ }
-{
-    let read = image::reading::read(state);
-    let answer = read.answer;
-    let held = read.state;
-    let ImageAnswer::Held = answer else {
-        return false;
-    };
-    soundness::sound::is_sound(held)
-}
-
-// The same as an answer.
 #[no_mangle]
 pub extern "C" fn vesztamor_is_sound(state: &[u8]) -> u64
     ensures { λ r. ⌜ r ≡ packed (soundExport (now (state .entry))) ⌝ }

@@ -5,7 +5,7 @@ ghost use Rattle.vesztamor.specs.Exported.{stepExport};
 use crate::answers::is_refused;
 use crate::answers::refusal;
 use crate::answers::step_answer;
-use crate::states::holds_sound;
+use crate::sound::holds_sound;
 use image::ImageAnswer;
 use trace::kinds::event_of;
 use trace::kinds::is_event;

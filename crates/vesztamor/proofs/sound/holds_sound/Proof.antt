@@ -1,8 +1,8 @@
--- `vesztamor::states::holds_sound` meets its contract. Assumes nothing.
+-- `vesztamor::sound::holds_sound` meets its contract. Assumes nothing.
 use borrow.Author.Needs.{needs}
 use Rattle.vesztamor.proofs.Held.{held, unheld, sound-none, sound-some}
-use Rattle.vesztamor.proofs.states.holds_sound.Statement.{statement}
-use Rattle.vesztamor.proofs.states.holds_sound.Tie as tie
+use Rattle.vesztamor.proofs.sound.holds_sound.Statement.{statement}
+use Rattle.vesztamor.proofs.sound.holds_sound.Tie as tie
 
 pub holds-sound-spec : {M : Type 1} → statement M
 holds-sound-spec =
