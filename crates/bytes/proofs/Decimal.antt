@@ -7,7 +7,7 @@ use native.Mathlib.Omega.{arith}
 use lib.Dec.{ltb}
 use borrow.Author.Tests.{lt-ltb}
 use Rattle.laws.specs.Tests.{if_then_else_}
-use Rattle.bytes.specs.Text.{digits, decimal}
+use Rattle.bytes.specs.Text.{digits, digitsMost, decimal}
 
 -- a tenth of a number has a digit less
 tenth : (k n : ℕ) → n < 10 ^ suc k → n / 10 < 10 ^ k
@@ -21,7 +21,7 @@ digits-more (suc k) zero n a b = rw (lt-ltb n 10 (omega arith))
 digits-more (suc k) (suc m) n a b =
     ap (λ l. (if ltb n 10 then [] else l) ++ (48 + n % 10) ∷ []) (digits-more k m (n / 10) (tenth (suc k) n a) (tenth (suc m) n b))
 
-pub decimal-more : (k n : ℕ) → n < 10 ^ 20 → 20 ≤ k → digits k n ≡ decimal n
+pub decimal-more : (k n : ℕ) → n < 10 ^ digitsMost → digitsMost ≤ k → digits k n ≡ decimal n
 unfolding decimal
 decimal-more zero n l h = absurd (omega arith)
 decimal-more (suc k) n l h = digits-more k 19 n (omega (arith, pow-le-pow-right {n = 10} (omega arith) h)) l

@@ -17,6 +17,10 @@ unfoldable pub digits : ℕ → ℕ → List ℕ
 digits zero n = []
 digits (suc left) n = (if ltb n 10 then [] else digits left (n / 10)) ++ (48 + n % 10) ∷ []
 
--- a number in decimal without padding; twenty digits are enough for 64 bits (law `decimal-more`)
+-- as many digits as are enough for every number of 64 bits (law `decimal-more`)
+abbrev pub digitsMost : ℕ
+digitsMost = 20
+
+-- a number in decimal without padding
 unfoldable pub decimal : ℕ → List ℕ
-decimal n = digits 20 n
+decimal n = digits digitsMost n

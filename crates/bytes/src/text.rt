@@ -2,7 +2,7 @@
 // longest text that it can write.
 ghost use Prim.Native.Nat.{_+_, _≤_};
 ghost use lib.ListN.{length};
-ghost use Rattle.bytes.specs.Text.{digits, decimal};
+ghost use Rattle.bytes.specs.Text.{digits, digitsMost, decimal};
 ghost use Rattle.bytes.specs.Writing.{Wrote};
 
 // Enough for every number of 64 bits.
@@ -38,8 +38,8 @@ fn put_digits(out: &mut [u8], at: usize, n: usize, left: usize) -> usize
 }
 
 pub fn put_number(out: &mut [u8], at: usize, n: usize) -> usize
-    requires { ⌜ at + 20 ≤ length (now out) ⌝ }
-    ensures { λ r. ⌜ Wrote 20 (now (out .entry)) at (decimal n) (now (out .exit)) r ⌝ }
+    requires { ⌜ at + digitsMost ≤ length (now out) ⌝ }
+    ensures { λ r. ⌜ Wrote digitsMost (now (out .entry)) at (decimal n) (now (out .exit)) r ⌝ }
 {
     put_digits(out, at, n, DIGITS)
 }

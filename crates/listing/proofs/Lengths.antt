@@ -23,7 +23,7 @@ use Rattle.trace.specs.declared.Read.the-variants.{Got, End, Fault}
 use Rattle.trace.specs.Reading.{readAt, itemsAfter, itemsFrom, itemsAt, items}
 use Rattle.trace.specs.Order.{Stage, opening, entering, complete, orderRefusal, advanced, fileLimit}
 use Rattle.trace.proofs.Items.{read-moves}
-use Rattle.bytes.specs.Text.{bytes, digits, decimal}
+use Rattle.bytes.specs.Text.{bytes, digits, digitsMost, decimal}
 use Rattle.listing.specs.Text.{field, newline, spelled, phaseWord, fieldMost, phaseMost, shortLineMost, eventLineMost, serverLineMost, endLinesMost}
 use Rattle.listing.specs.Listing.{Progress, beginning, started, continued, eventLine, stopLine, serverText, serverLine, taskText, taskLine, endLines, endText, recordText, readText, itemsText, listing}
 use Rattle.listing.specs.Replay.{roomEach, roomMore, room}
@@ -40,7 +40,7 @@ digits-most (suc left) n =
 
 field-most : (n : ℕ) → length (field n) ≤ fieldMost
 unfolding field bytes decimal
-field-most n = simp length-append (omega (arith, digits-most 20 n))
+field-most n = simp length-append (omega (arith, digits-most digitsMost n))
 
 spelled-most : (w : Word) → length (spelled w) ≤ 8
 unfolding spelled bytes
@@ -63,7 +63,7 @@ phase-most Recharging = omega arith
 event-most : (n : ℕ) (a : Answer) → length (eventLine n a) ≤ eventLineMost
 unfolding eventLine bytes newline decimal
 event-most n a =
-    simp length-append (omega (arith, digits-most 20 n, spelled-most (said a .0), field-most (said a .1)))
+    simp length-append (omega (arith, digits-most digitsMost n, spelled-most (said a .0), field-most (said a .1)))
 
 stop-most : (at n : ℕ) → length (stopLine at n) ≤ shortLineMost
 unfolding stopLine bytes newline

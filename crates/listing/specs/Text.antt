@@ -1,7 +1,7 @@
 -- Words, fields and lines as bytes (rule 14.5). Assumes nothing.
 use mathlib.Core.List.{List, _++_}
 use Prim.Native.Nat.{ℕ, _+_, _*_}
-use Rattle.bytes.specs.Text.{bytes, decimal}
+use Rattle.bytes.specs.Text.{bytes, digitsMost, decimal}
 use Rattle.model.specs.declared.Phase.{Phase}
 use Rattle.model.specs.declared.Phase.the-variants.{Idle, Active, Running, Recharging}
 use Rattle.model.specs.State.{places}
@@ -30,12 +30,9 @@ phaseWord Active = bytes "active"
 phaseWord Running = bytes "running"
 phaseWord Recharging = bytes "recharging"
 
--- the longest that each can be, in bytes (laws of `Lengths`): a number has at most twenty digits
-abbrev pub numberMost : ℕ
-numberMost = 20
-
+-- the longest that each can be, in bytes (laws of `Lengths`)
 abbrev pub fieldMost : ℕ
-fieldMost = numberMost + 1
+fieldMost = digitsMost + 1
 
 abbrev pub pairMost : ℕ
 pairMost = fieldMost + fieldMost
@@ -52,7 +49,7 @@ abbrev pub shortLineMost : ℕ
 shortLineMost = 4 + pairMost + 1
 
 abbrev pub eventLineMost : ℕ
-eventLineMost = numberMost + 1 + answerMost + 1
+eventLineMost = digitsMost + 1 + answerMost + 1
 
 -- a server's line up to its phase, and whole
 abbrev pub serverPhaseMost : ℕ
