@@ -139,6 +139,15 @@ pub struct Row {
     pub spin: u32,
 }
 
+// A number that is no task's, no server's and no resource's.
+pub const NOBODY: u16 = 16;
+
+// The longest period, and the most ticks that one elapse may count (rules 1.4 and 10.2).
+pub const LONGEST: u32 = 1000000;
+
+// Where the clock stops (rule 1.5).
+pub const CLOCK_LIMIT: u32 = 4000000000;
+
 pub mod blank;
 pub mod builders;
 pub mod entries;
