@@ -8,7 +8,7 @@ use lib.Dec.{ltb, eqb}
 use lib.ListN.{length, getD, set, length-set, List·getD-eq-default}
 use lib.Seq.{getD-set-same, getD-set-other}
 use borrow.Author.Tests.{eqb-true, eqb-false, eq-eqb, ne-eqb, ltb-true, ltb-false}
-use Rattle.laws.specs.Tests.{if_then_else_}
+use Rattle.laws.specs.Tests.{if_then_else_, bit}
 use Rattle.laws.specs.Loops.{setTo}
 use Rattle.laws.proofs.Cases.{split, holds-fails, and-left, and-right}
 use Rattle.laws.proofs.Set.{length-setTo, set-cases}
@@ -18,6 +18,7 @@ use Rattle.model.specs.declared.Phase.{Phase}
 use Rattle.model.specs.declared.Phase.the-variants.{Idle, Active}
 use Rattle.model.specs.declared.Mode.{Mode}
 use Rattle.model.specs.declared.Mode.the-variants.{Suspended, Ready, Waiting}
+use Rattle.model.specs.declared.Runs.{Runs}
 use Rattle.model.specs.declared.Owner.{Owner}
 use Rattle.model.specs.declared.Owner.the-variants.{Nobody, By}
 use Rattle.model.specs.declared.Server.{Server}
@@ -25,7 +26,9 @@ use Rattle.model.specs.declared.Task.{Task}
 use Rattle.model.specs.declared.Resource.{Resource}
 use Rattle.model.specs.declared.State.{State}
 use Rattle.model.specs.declared.Event.the-variants.{Wake, Suspend, Elapse, Recharge, Lock, Unlock}
-use Rattle.model.specs.State.{places, nobody, noTask, serverAt, taskAt, resourceAt, here, present, suspended, awaited, owned, ownerNo, ownerOf, next, served, executing}
+use Rattle.model.specs.declared.Answer.{Answer}
+use Rattle.model.specs.declared.Answer.the-variants.{Ok, Granted, Waits, Passed, Freed}
+use Rattle.model.specs.State.{places, nobody, noTask, serverAt, taskAt, resourceAt, here, present, active, suspended, awaited, owned, ownerNo, placeNo, ownerOf, next, served, executorOf}
 use Rattle.model.specs.RuleH.{withTasks}
 use Rattle.model.specs.Events.{withServers, withClock, withServer, withTask, withResource, withPhase, refilled, withMode, eachServer, taskBy, woken, rested, slept, phased, tickedTask, elapsed, rechargedPhase, recharged, withOwner, pushed, popped, enqueued, dequeued, nextInQueue, shifted, firstWaiter, granted, joined, restedEnd, locked, freed, passed, unlocked}
 use Rattle.model.proofs.Chain.{here-below, owner-past, present-past, same-served}
@@ -35,17 +38,18 @@ use Rattle.chain.proofs.Arrays.{ends-same}
 use Rattle.events.specs.declared.turning.Turn.{Turn}
 use Rattle.events.specs.declared.turning.Turn.the-variants.{Wakes, Rests}
 use Rattle.events.specs.declared.turning.Turned.{Turned}
-use Rattle.events.specs.Verdicts.{Clear}
 use Rattle.events.specs.declared.Change.{Change}
-use Rattle.events.specs.Changes.{changeTo, changeOf, phasedChange}
-use Rattle.events.specs.Turning.{turnOf, serversBy, turns, turnedServer, turnedServers, modeAfter}
-use Rattle.events.specs.Spending.{spentServers, tickedTasks}
-use Rattle.events.specs.Computed.{restedIf}
+use Rattle.events.specs.Changes.{Clear, hosts, told, changeTo, changeOf, phasedChange}
+use Rattle.events.specs.Computed.{turnOf, serversBy, turns, turnedServer, turnedServers, modeAfter, spentServers, tickedTasks}
 use Rattle.events.proofs.Turns.{end-served}
-use Rattle.events.proofs.Clear.{clear-grounds, clear-loose}
+use Rattle.events.proofs.Clear.{clear-grounds, clear-loose, number-owned}
+
+-- the server of a change that is neither lock nor unlock
+abbrev none : ServerNo
+none = record { 0 = nobody }
 
 -- what is the same of a new entry and of the one before is the same of the list
-kept-under
+pub kept-under
     : {A : Type 0} {B : Type 0} (f : A → B) (xs : List A) (t i : ℕ) (v d : A)
     → f v ≡ f (getD xs t d)
     → f (getD (set xs t v) i d) ≡ f (getD xs i d)
@@ -65,11 +69,6 @@ kept-under f xs t i v d e =
 -- the owner that a task in this mode waits for
 abbrev linkOf : State → Task → ℕ
 linkOf st k = ownerOf st (awaited (k .mode))
-
--- a number in use has an owner behind it
-number-owned : (st : State) (o : Owner) → here st (ownerNo o) ≡ true → owned o ≡ true
-number-owned st Nobody h = absurd (omega (arith, here-below st 16 h))
-number-owned st (By t) h = refl
 
 no-owner : (st : State) → ownerOf st nobody ≡ nobody
 no-owner st = owner-past st nobody (present-past st nobody (omega arith))
@@ -91,7 +90,7 @@ executing-link st t clear =
     absurd
     (executing-waits st (clear-loose st (Suspend t) clear) (t .0) (clear-grounds st (Suspend t) clear .1) r
     (and-left (present st r) _ y)
-    (number-owned st o (and-right (present st r) _ y))
+    (number-owned o (here-below st _ (and-right (present st r) _ y)))
     refl))
     (λ n. rw n)
 
@@ -117,7 +116,9 @@ turned-ends turn st t ss clear = ends-same _ st (same-served _ st (moded-next st
 
 abbrev turnedTo : Turn → State → TaskNo → Change
 turnedTo turn st t =
-    changeTo (withTask (t .0) (withMode (modeAfter turn) (taskAt st (t .0))) (withServers (turnedServers turn st (t .0) .server) st)) (turnedServers turn st (t .0) .count)
+    changeTo (withTask (t .0) (withMode (modeAfter turn) (taskAt st (t .0))) (withServers (turnedServers turn st (t .0) .server) st))
+    (Ok (turnedServers turn st (t .0) .count))
+    nobody
 
 turned-is : (turn : Turn) (st : State) (t : TaskNo) → turnedTo turn st t ≡ changeOf st (turnOf turn t)
 unfolding changeOf woken slept rested eachServer serversBy turns turnedServer
@@ -131,59 +132,78 @@ pub turned-does
     → x ≡ turnedServers turn st (t .0)
     → m ≡ modeAfter turn
     → k ≡ withMode m (taskAt st (t .0))
-    → record { state = withTask (t .0) k (withServers (x .server) st); ends = ends; count = x .count } ≡ changeOf st (turnOf turn t)
+    → record { state = withTask (t .0) k (withServers (x .server) st); answer = Ok (x .count); ends = ends; acting = none } ≡ changeOf st (turnOf turn t)
 turned-does turn st t ends x m k clear e ex em ek =
     (λ i. record {
       state = withTask (t .0) ((ek ∙ ap (λ y. withMode y (taskAt st (t .0))) em) i) (withServers (ex i .server) st);
+      answer = Ok (ex i .count);
       ends = (e ∙ sym (turned-ends turn st t (turnedServers turn st (t .0) .server) clear)) i;
-      count = ex i .count;
+      acting = none;
     })
     ∙ turned-is turn st t
 
 -- Dispatch, preempt and recharge: a server is no part of a chain
-servers-next : (ss : List Server) (st : State) (t : ℕ) → next (withServers ss st) t ≡ next st t
+pub servers-next : (ss : List Server) (st : State) (t : ℕ) → next (withServers ss st) t ≡ next st t
 unfolding next ownerOf present here
 servers-next ss st t = refl
 
-pub servers-ends : (ss : List Server) (st : State) → endsOf (withServers ss st) ≡ endsOf st
+servers-ends : (ss : List Server) (st : State) → endsOf (withServers ss st) ≡ endsOf st
 servers-ends ss st = ends-same _ st (same-served _ st (servers-next ss st))
 
 pub phased-does
-    : (p : Phase) (st : State) (s : ℕ) (ends : List TaskNo) (x : Server)
+    : (p : Phase) (st : State) (s : ℕ) (ends : List TaskNo) (executor : ServerNo) (k : ℕ) (x : Server)
+    → s < places
     → ends ≡ endsOf st
+    → executor ≡ record { 0 = placeNo (taskAt st (getD ends s (record { 0 = 0 }) .0) .runs) }
+    → k ≡ bit (eqb (executor .0) s)
     → x ≡ withPhase p (serverAt st s)
-    → record { state = withServer s x st; ends = ends; count = 0 } ≡ phasedChange p st s
-unfolding phasedChange phased
-phased-does p st s ends x e ex =
-    λ i. record { state = withServer s (ex i) st; ends = (e ∙ sym (servers-ends (set (st .server) s (withPhase p (serverAt st s))) st)) i; count = 0 }
+    → record { state = withServer s x st; answer = Ok k; ends = ends; acting = none } ≡ phasedChange p st s
+unfolding phasedChange phased executorOf
+phased-does p st s ends executor k x l e ee ek ex =
+    let place = ap (λ y. y .0) ee ∙ ap (λ t. placeNo (taskAt st t .runs)) (end-served st ends s e l) in
+    λ i. record {
+      state = withServer s (ex i) st;
+      answer = Ok ((ek ∙ ap (λ y. bit (eqb y s)) place) i);
+      ends = (e ∙ sym (servers-ends (set (st .server) s (withPhase p (serverAt st s))) st)) i;
+      acting = none;
+    }
 
 pub recharged-does
-    : (st : State) (s : ServerNo) (ends : List TaskNo) (p : Phase) (x : Server)
+    : (st : State) (s : ServerNo) (ends : List TaskNo) (p : Phase) (x : Server) (a : Bool) (k : ℕ)
     → s .0 < places
     → ends ≡ endsOf st
     → p ≡ (if suspended (taskAt st (getD ends (s .0) (record { 0 = 0 }) .0) .mode) then Idle else Active)
     → x ≡ refilled p (st .clock) (serverAt st (s .0))
-    → record { state = withServer (s .0) x st; ends = ends; count = 0 } ≡ changeOf st (Recharge s)
+    → a ≡ active (serverAt (withServer (s .0) x st) (s .0) .phase)
+    → k ≡ bit a
+    → record { state = withServer (s .0) x st; answer = Ok k; ends = ends; acting = none } ≡ changeOf st (Recharge s)
 unfolding changeOf recharged rechargedPhase
-recharged-does st s ends p x l e ep ex =
+recharged-does st s ends p x a k l e ep ex ea ek =
     let phase : p ≡ rechargedPhase st (s .0) =
     ep ∙ ap (λ t. if suspended (taskAt st t .mode) then Idle else Active) (end-served st ends (s .0) e l) in
     let entry = ex ∙ ap (λ q. refilled q (st .clock) (serverAt st (s .0))) phase in
     let same = servers-ends (set (st .server) (s .0) (refilled (rechargedPhase st (s .0)) (st .clock) (serverAt st (s .0)))) st in
-    λ i. record { state = withServer (s .0) (entry i) st; ends = (e ∙ sym same) i; count = 0 }
+    let answer = ek ∙ ap bit (ea ∙ ap (λ y. active (serverAt (withServer (s .0) y st) (s .0) .phase)) entry) in
+    λ i. record { state = withServer (s .0) (entry i) st; answer = Ok (answer i); ends = (e ∙ sym same) i; acting = none }
 
--- Elapse: a task keeps its mode
-elapsed-mode : (st : State) (n t : ℕ) → taskAt (elapsed st n) t .mode ≡ taskAt st t .mode
+-- Elapse: a task keeps its mode, and executes where it did
+abbrev pub keeps : Task → Mode × Runs
+keeps k = (k .mode, k .runs)
+
+pub elapsed-keeps : (st : State) (n t : ℕ) → keeps (taskAt (elapsed st n) t) ≡ keeps (taskAt st t)
 unfolding elapsed eachServer taskBy tickedTask
-elapsed-mode st n t =
+elapsed-keeps st n t =
     split
     (ltb t (length (st .task)))
     (λ y.
-    ap (λ k. k .mode) (set-cases places t _ (st .task) noTask (ltb-true _ _ y))
+    ap keeps (set-cases places t _ (st .task) noTask (ltb-true _ _ y))
     ∙ split (ltb t places) (λ l. rw l (split (here st t) (λ h. rw h) (λ m. rw m))) (λ g. rw g))
     (λ m.
     let past : length (st .task) ≤ t = ltb-false _ _ m in
-    ap (λ k. k .mode) (List·getD-eq-default (setTo places _ (st .task)) noTask (rw (length-setTo places _ (st .task)) past) ∙ sym (List·getD-eq-default (st .task) noTask past)))
+    ap keeps (List·getD-eq-default (setTo places _ (st .task)) noTask (rw (length-setTo places _ (st .task)) past) ∙ sym (List·getD-eq-default (st .task) noTask past)))
+
+elapsed-mode : (st : State) (n t : ℕ) → taskAt (elapsed st n) t .mode ≡ taskAt st t .mode
+elapsed-mode st n t = ap (λ k. k .0) (elapsed-keeps st n t)
 
 elapsed-here : (st : State) (n i : ℕ) → here (elapsed st n) i ≡ here st i
 unfolding elapsed eachServer here
@@ -210,10 +230,10 @@ pub elapsed-does
     → ends ≡ endsOf st
     → x ≡ spentServers st n
     → ts ≡ tickedTasks st n
-    → record { state = withClock (st .clock + n) (withTasks ts (withServers (x .server) st)); ends = ends; count = x .count } ≡ changeOf st (Elapse n)
+    → record { state = withClock (st .clock + n) (withTasks ts (withServers (x .server) st)); answer = Ok (x .count); ends = ends; acting = none } ≡ changeOf st (Elapse n)
 unfolding changeOf serversBy
 elapsed-does st n ends x ts e ex et =
-    λ i. record { state = made i; ends = (e ∙ sym (ends-same _ st (same-served _ st (elapsed-next st n)))) i; count = counts i }
+    λ i. record { state = made i; answer = Ok (counts i); ends = (e ∙ sym (ends-same _ st (same-served _ st (elapsed-next st n)))) i; acting = none }
   where
     made : withClock (st .clock + n) (withTasks ts (withServers (x .server) st)) ≡ elapsed st n
     made = elapsed-parts st n x ts ex et
@@ -235,32 +255,32 @@ unfolding joined
 joined-parts st t r task resource p q = ap₂ (λ k x. withTask t k (withResource r x st)) p q
 
 -- servers behind a suspended chain end
-pub rested-no : (st : State) (end : ℕ) → suspended (taskAt st end .mode) ≡ false → st ≡ restedIf st end
-unfolding restedIf
-rested-no st end h = rw h
+module _ (st : State) (t end : ℕ) (q : end ≡ served st t) where
+  pub rested-no : suspended (taskAt st end .mode) ≡ false → st ≡ restedEnd st t
+  unfolding restedEnd
+  rested-no h = rw (← q, h)
 
-pub rested-yes
-    : (st : State) (end : ℕ) (x : Turned)
-    → suspended (taskAt st end .mode) ≡ true
-    → x ≡ turnedServers Rests st end
-    → withServers (x .server) st ≡ restedIf st end
-unfolding restedIf rested eachServer serversBy turnedServer
-rested-yes st end x h e = rw h (ap (λ y. withServers (y .server) st) e)
-
-rested-end-is : (st : State) (t : ℕ) → restedIf st (served st t) ≡ restedEnd st t
-unfolding restedIf restedEnd
-rested-end-is st t = refl
+  pub rested-yes : (x : Turned) → suspended (taskAt st end .mode) ≡ true → x ≡ turnedServers Rests st end → withServers (x .server) st ≡ restedEnd st t
+  unfolding restedEnd rested eachServer serversBy turnedServer
+  rested-yes x h e = rw (← q, h) (ap (λ y. withServers (y .server) st) e)
 
 rested-ends : (st : State) (t : ℕ) → endsOf (restedEnd st t) ≡ endsOf st
 unfolding restedEnd rested eachServer
 rested-ends st t = split (suspended (taskAt st (served st t) .mode)) (λ y. rw y (servers-ends _ st)) (λ n. rw n)
 
 -- the code's chain ends are those of the state that it has made
-module _ (st u made : State) (ends : List TaskNo) (e : ends ≡ endsOf u) (m : u ≡ made) where
-  whole : _≡_ {A = Change} (record { state = u; ends = ends; count = 0 }) (changeTo made 0)
-  whole = λ i. record { state = m i; ends = (e ∙ ap endsOf m) i; count = 0 }
+change-is
+    : (u made : State) (a b : Answer) (ends : List TaskNo) (x : ServerNo) (s : ℕ)
+    → u ≡ made
+    → a ≡ b
+    → ends ≡ endsOf made
+    → x ≡ record { 0 = s }
+    → _≡_ {A = Change} (record { state = u; answer = a; ends = ends; acting = x }) (changeTo made b s)
+change-is u made a b ends x s m q e y = λ i. record { state = m i; answer = q i; ends = e i; acting = y i }
 
-module _ (st : State) (t : TaskNo) (r : ℕ) (task : Task) (resource : Resource) (ends : List TaskNo) where
+module _
+    (st : State) (t : TaskNo) (r : ℕ) (x : ServerNo) (acts : x ≡ record { 0 = placeNo (taskAt st (t .0) .runs) })
+    (task : Task) (resource : Resource) (ends : List TaskNo) where
   abbrev made : State
   made = withTask (t .0) task (withResource r resource st)
 
@@ -269,43 +289,47 @@ module _ (st : State) (t : TaskNo) (r : ℕ) (task : Task) (resource : Resource)
       → task ≡ pushed r (taskAt st (t .0))
       → resource ≡ withOwner (By t) (resourceAt st r)
       → ends ≡ endsOf made
-      → record { state = made; ends = ends; count = 0 } ≡ changeOf st (Lock t r)
-  unfolding changeOf locked granted
+      → record { state = made; answer = Granted r; ends = ends; acting = x } ≡ changeOf st (Lock t r)
+  unfolding changeOf locked granted executorOf
   granted-does free p q e =
-      whole st made (granted st (t .0) r) ends e (ap₂ (λ k x. withTask (t .0) k (withResource r x st)) p q) ∙ rw free
+      let m = ap₂ (λ k y. withTask (t .0) k (withResource r y st)) p q in
+      change-is made (granted st (t .0) r) _ _ ends x _ m refl (e ∙ ap endsOf m) acts ∙ rw free
 
   pub freed-does
       : resourceAt st r .waiting ≡ 0
       → task ≡ popped (taskAt st (t .0))
       → resource ≡ withOwner Nobody (resourceAt st r)
       → ends ≡ endsOf made
-      → record { state = made; ends = ends; count = 0 } ≡ changeOf st (Unlock t r)
-  unfolding changeOf unlocked freed
+      → record { state = made; answer = Freed r; ends = ends; acting = x } ≡ changeOf st (Unlock t r)
+  unfolding changeOf unlocked freed executorOf
   freed-does none p q e =
-      whole st made (freed st (t .0) r) ends e (ap₂ (λ k x. withTask (t .0) k (withResource r x st)) p q) ∙ rw (eq-eqb (resourceAt st r .waiting) 0 none)
+      let m = ap₂ (λ k y. withTask (t .0) k (withResource r y st)) p q in
+      change-is made (freed st (t .0) r) _ _ ends x _ m refl (e ∙ ap endsOf m) acts ∙ rw (eq-eqb (resourceAt st r .waiting) 0 none)
 
   pub queued-does
-      : (after : State) (end : ℕ)
+      : (after : State) (end : TaskNo)
       → t .0 < places
       → owned (resourceAt st r .owner) ≡ true
       → task ≡ withMode (Waiting r) (taskAt st (t .0))
       → resource ≡ enqueued (t .0) (resourceAt st r)
       → ends ≡ endsOf made
-      → end ≡ getD ends (t .0) (record { 0 = 0 }) .0
-      → after ≡ restedIf made end
-      → record { state = after; ends = ends; count = 0 } ≡ changeOf st (Lock t r)
-  unfolding changeOf locked
+      → end ≡ getD ends (t .0) (record { 0 = 0 })
+      → after ≡ restedEnd made (t .0)
+      → record { state = after; answer = Waits end; ends = ends; acting = x } ≡ changeOf st (Lock t r)
+  unfolding changeOf locked executorOf
   queued-does after end l taken p q e en a =
-      let j : made ≡ joined st (t .0) r = joined-is p q in
-      let n : end ≡ served (joined st (t .0) r) (t .0) = en ∙ end-served _ ends (t .0) (e ∙ ap endsOf j) l in
-      let rests : after ≡ restedEnd (joined st (t .0) r) (t .0) = a ∙ ap₂ restedIf j n ∙ rested-end-is (joined st (t .0) r) (t .0) in
-      (λ i. record { state = rests i; ends = (e ∙ ap endsOf j ∙ sym (rested-ends (joined st (t .0) r) (t .0))) i; count = 0 }) ∙ rw taken
-    where
-      joined-is : task ≡ withMode (Waiting r) (taskAt st (t .0)) → resource ≡ enqueued (t .0) (resourceAt st r) → made ≡ joined st (t .0) r
-      joined-is p q = joined-parts st (t .0) r task resource p q
+      let j : made ≡ joined st (t .0) r = joined-parts st (t .0) r task resource p q in
+      let m = a ∙ ap (λ u. restedEnd u (t .0)) j in
+      let f = e ∙ ap endsOf j ∙ sym (rested-ends (joined st (t .0) r) (t .0)) in
+      change-is after (restedEnd (joined st (t .0) r) (t .0)) _ _ ends x _ m
+      (ap Waits (en ∙ (λ i. record { 0 = end-served _ ends (t .0) f l i })))
+      f
+      acts
+      ∙ rw taken
 
 pub passed-does
-    : (st : State) (t : TaskNo) (r : ℕ) (heir : TaskNo) (task ready waiter : Task) (shorter resource : Resource) (ends : List TaskNo)
+    : (st : State) (t : TaskNo) (r : ℕ) (heir : TaskNo) (task ready waiter : Task) (shorter resource : Resource) (ends : List TaskNo) (x : ServerNo)
+    → x ≡ record { 0 = placeNo (taskAt st (t .0) .runs) }
     → 0 < resourceAt st r .waiting
     → heir ≡ record { 0 = firstWaiter (resourceAt st r) }
     → task ≡ popped (taskAt st (t .0))
@@ -314,8 +338,9 @@ pub passed-does
     → shorter ≡ dequeued (resourceAt st r)
     → resource ≡ withOwner (By heir) shorter
     → ends ≡ endsOf (withTask (heir .0) waiter (withTask (t .0) task (withResource r resource st)))
-    → record { state = withTask (heir .0) waiter (withTask (t .0) task (withResource r resource st)); ends = ends; count = 0 } ≡ changeOf st (Unlock t r)
-unfolding changeOf unlocked passed
-passed-does st t r heir task ready waiter shorter resource ends some f p q w x y e =
-    whole st _ (passed st (t .0) r (firstWaiter (resourceAt st r))) ends e (rw (p, w, q, y, x, f))
+    → record { state = withTask (heir .0) waiter (withTask (t .0) task (withResource r resource st)); answer = Passed heir; ends = ends; acting = x } ≡ changeOf st (Unlock t r)
+unfolding changeOf unlocked passed executorOf
+passed-does st t r heir task ready waiter shorter resource ends x acts some f p q w y z e =
+    let m : withTask (heir .0) waiter (withTask (t .0) task (withResource r resource st)) ≡ passed st (t .0) r (firstWaiter (resourceAt st r)) = rw (p, w, q, z, y, f) in
+    change-is _ _ _ _ ends x _ m (ap Passed f) (e ∙ ap endsOf m) acts
     ∙ rw (ne-eqb (resourceAt st r .waiting) 0 (λ z. omega arith))

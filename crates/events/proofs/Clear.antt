@@ -22,8 +22,8 @@ use Rattle.model.proofs.Grounds.{Grounds, grounds, unrefused-free}
 use Rattle.model.proofs.Room.{stack-room, queue-room, stack-held, first-here, first-waits, executing-waits}
 use Rattle.events.specs.declared.turning.Turn.{Turn}
 use Rattle.events.specs.declared.turning.Turn.the-variants.{Wakes, Rests}
-use Rattle.events.specs.Verdicts.{Clear}
-use Rattle.events.specs.Turning.{turnOf, Timely}
+use Rattle.events.specs.Changes.{Clear}
+use Rattle.events.specs.Computed.{turnOf, Timely}
 
 pub clear-grounds : (st : State) (e : Event) → Clear st e → Grounds st e
 clear-grounds st e c = grounds st e (unrefused-free st e (c .unrefused))
@@ -50,7 +50,8 @@ turn-timely Rests st s i h = tt
 pub elapse-affords : (st : State) (n : ℕ) → Clear st (Elapse n) → each st (affords st n) ≡ true
 elapse-affords st n c = not-false _ (none-fails _ _ _ (none-later _ _ _ (none-later _ _ _ (c .unrefused))))
 
-number-owned : (o : Owner) → ownerNo o < 16 → owned o ≡ true
+-- a number that has a place is an owner's
+pub number-owned : (o : Owner) → ownerNo o < 16 → owned o ≡ true
 number-owned Nobody l = absurd (omega arith)
 number-owned (By t) l = refl
 

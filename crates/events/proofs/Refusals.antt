@@ -1,24 +1,26 @@
 -- What the tests of an event say as the code makes them, in their order; and what is known where none refuses. Assumes nothing.
 use mathlib.Core.Path.{_≡_, refl, sym, ap, _∙_}
-use mathlib.Core.Bool.{Bool, true, false, not}
+use mathlib.Core.Bool.{Bool, true, false, not, _||_}
 use mathlib.Core.List.{List}
-use mathlib.Core.Option.{Option, none, some}
 use Prim.Native.Nat.{ℕ, _-_, _<_, _≤_}
 use native.Mathlib.Omega.{arith}
-use lib.Dec.{ltb, eqb}
+use lib.Dec.{ltb}
 use lib.ListN.{length, getD, List·getD-eq-default}
-use borrow.Author.Tests.{not-true, not-false, le-leb, lt-leb, ltb-true, ne-eqb}
-use Rattle.laws.specs.Tests.{firstOf}
-use Rattle.laws.specs.Loops.{countTo}
-use Rattle.laws.proofs.Cases.{and-left}
+use borrow.Author.Tests.{not-true, not-false, ltb-true}
+use Rattle.laws.specs.Tests.{firstOf, _when_or_, accepted}
+use Rattle.laws.proofs.Cases.{and-left, holds-fails}
 use Rattle.model.specs.declared.State.{State}
 use Rattle.model.specs.declared.Event.{Event}
-use Rattle.model.specs.State.{places, inUse, runningAt}
+use Rattle.model.specs.declared.Event.the-variants.{Wake, Suspend, Dispatch, Preempt, Elapse, Recharge, Lock, Unlock}
+use Rattle.model.specs.declared.Verdict.{Verdict}
+use Rattle.model.specs.declared.Verdict.the-variants.{Accepted, Refused}
+use Rattle.model.specs.State.{places, inUse, here}
 use Rattle.model.specs.Sound.{sound}
-use Rattle.model.specs.Step.{crowded, tests}
-use Rattle.events.specs.declared.Verdict.{Verdict}
-use Rattle.events.specs.declared.Verdict.the-variants.{Accepted}
-use Rattle.events.specs.Verdicts.{verdict, Clear}
+use Rattle.model.specs.Step.{tests}
+use Rattle.model.specs.Verdicts.{verdict, refusedIf}
+use Rattle.model.proofs.Refused.{verdict-if, verdict-none}
+use Rattle.events.specs.Changes.{Clear}
+use Rattle.events.specs.Computed.{numberOf, elapses}
 
 -- what a call says, by the branch that tests its denial
 module _ {a b : Bool} (e : a ≡ b) where
@@ -32,18 +34,21 @@ module _ {a b : Bool} (e : a ≡ b) where
 pub used-below : (count i : ℕ) → inUse count i ≡ true → i < places
 used-below count i h = ltb-true i places (and-left (ltb i places) _ h)
 
-pub nobody-else : (t : ℕ) → t < places → eqb 16 t ≡ false
-nobody-else t l = ne-eqb 16 t (λ q. omega arith)
+-- the last test of an event
+pub last-test : (n : ℕ) (v : Verdict) (a b : Bool) → v ≡ refusedIf n a → a ≡ b → v ≡ verdict (firstOf (n when b or accepted))
+last-test n v a b e q = e ∙ ap (refusedIf n) q ∙ verdict-if n b
 
--- "no processor free"
-module _ (st : State) (k : ℕ) (e : k ≡ countTo places (runningAt st)) where
-  pub crowded-yes : st .processors ≤ k → crowded st ≡ true
-  unfolding crowded
-  crowded-yes l = le-leb _ _ (rw e at l)
-
-  pub crowded-no : k < st .processors → crowded st ≡ false
-  unfolding crowded
-  crowded-no l = lt-leb _ _ (rw e at l)
+-- 2 of every event that names a number
+pub unnamed : (st : State) (e : Event) → (elapses e || inUse (st .tasks) (numberOf e)) ≡ false → Refused 2 ≡ verdict (firstOf (tests st e))
+unfolding firstOf here
+unnamed st (Wake t) n = rw n
+unnamed st (Suspend t) n = rw n
+unnamed st (Dispatch s) n = rw n
+unnamed st (Preempt s) n = rw n
+unnamed st (Elapse k) n = holds-fails refl n
+unnamed st (Recharge s) n = rw n
+unnamed st (Lock t r) n = rw n
+unnamed st (Unlock t r) n = rw n
 
 -- the top of a stack, at its last place or past the array's end
 pub top-inside : (held : List ℕ) (depth at : ℕ) → at ≡ depth - 1 → getD held at 0 ≡ getD held (depth - 1) 0
@@ -53,9 +58,5 @@ pub top-past : (held : List ℕ) (depth at : ℕ) → length held ≡ 16 → at 
 top-past held depth at n e l = sym (List·getD-eq-default held 0 (omega arith))
 
 -- an accepted event is clear
-accepted-none : (o : Option ℕ) → verdict o ≡ Accepted → o ≡ none
-accepted-none none h = refl
-accepted-none (some n) h = let z : _≡_ {A = ℕ} 0 1 = cc in absurd (omega arith)
-
 pub accepted-clear : (st : State) (e : Event) (v : Verdict) → v ≡ verdict (firstOf (tests st e)) → sound st ≡ true → v ≡ Accepted → Clear st e
-accepted-clear st e v h s a = record { is-sound = s; unrefused = accepted-none _ (sym h ∙ a) }
+accepted-clear st e v h s a = record { is-sound = s; unrefused = verdict-none _ (sym h ∙ a) }

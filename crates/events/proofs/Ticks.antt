@@ -21,7 +21,7 @@ use Rattle.model.specs.Sound.{ifHere, each, sound}
 use Rattle.model.specs.Events.{runsOut, ownTicks, lentTicks, spinTicks, spentServer, tickedTask}
 use Rattle.model.specs.Step.{affords}
 use Rattle.model.proofs.Sound.{each-fact, sound-facts}
-use Rattle.events.specs.Spending.{spentBy, tickedBy}
+use Rattle.events.specs.Computed.{spentBy, tickedBy}
 
 -- the ticks of an account
 ticks-are : (x n m : ℕ) (b p : Bool) → b ≡ p → m ≡ (if b then n else 0) → x + m ≡ x + (if p then n else 0)

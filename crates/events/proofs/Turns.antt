@@ -20,7 +20,7 @@ use Rattle.chain.specs.Arrays.{endsOf}
 use Rattle.chain.proofs.Arrays.{ends-at}
 use Rattle.events.specs.declared.turning.Turn.{Turn}
 use Rattle.events.specs.declared.turning.Turn.the-variants.{Wakes, Rests}
-use Rattle.events.specs.Turning.{concerns, turned, serversBy, turns, turnedServer}
+use Rattle.events.specs.Computed.{concerns, turned, serversBy, turns, turnedServer}
 
 -- what the array of chain ends has at a place
 module _ (st : State) (ends : List TaskNo) (s : ℕ) (e : ends ≡ endsOf st) (l : s < places) where

@@ -3,28 +3,75 @@
 ghost use mathlib.Core.Path.{_≡_};
 ghost use Rattle.laws.specs.Tests.{firstOf};
 ghost use Rattle.model.specs.Step.{tests};
-ghost use Rattle.events.specs.Verdicts.{verdict, Clear};
-ghost use Rattle.events.specs.Changes.{changeOf};
+ghost use Rattle.model.specs.Verdicts.{verdict};
+ghost use Rattle.events.specs.Changes.{Clear, changeOf};
+ghost use Rattle.events.specs.Computed.{numberOf, elapses};
 use crate::Change;
-use crate::Verdict;
 use crate::turning::Turn;
 use model::Event;
 use model::Phase;
 use model::State;
+use model::Verdict;
 
-// The number of the first test that refuses the event, in document 01's order, or none.
+// The number of the task or the server that the event names. An elapse names none.
+fn number_of(e: Event) -> u16
+    ensures { λ r. ⌜ r ≡ numberOf e ⌝ }
+{
+    match e {
+        Event::Wake(t) => t.0,
+        Event::Suspend(t) => t.0,
+        Event::Dispatch(s) => s.0,
+        Event::Preempt(s) => s.0,
+        Event::Elapse(_) => 0,
+        Event::Recharge(s) => s.0,
+        Event::Lock(t, _) => t.0,
+        Event::Unlock(t, _) => t.0,
+    }
+}
+
+fn elapses(e: Event) -> bool
+    ensures { λ r. ⌜ r ≡ elapses e ⌝ }
+{
+    match e {
+        Event::Wake(_) => false,
+        Event::Suspend(_) => false,
+        Event::Dispatch(_) => false,
+        Event::Preempt(_) => false,
+        Event::Elapse(_) => true,
+        Event::Recharge(_) => false,
+        Event::Lock(_, _) => false,
+        Event::Unlock(_, _) => false,
+    }
+}
+
+// The number of the first test that refuses the event, in the order of rule 10.2, or none. Test 2 is the first of every event that names a number.
 pub fn refusal(st: State, e: Event) -> Verdict
     ensures { λ v. ⌜ v ≡ verdict (firstOf (tests st e)) ⌝ }
 {
+    let number = number_of(e) as usize;
+    let used = model::entries::in_use(st.tasks, number);
+    if !model::entries::either(elapses(e), used) {
+        return Verdict::Refused(2);
+    }
     match e {
-        Event::Wake(t) => crate::servers::wake_refusal(st, t),
-        Event::Suspend(t) => crate::servers::suspend_refusal(st, t),
-        Event::Dispatch(s) => crate::servers::dispatch_refusal(st, s),
-        Event::Preempt(s) => crate::servers::preempt_refusal(st, s),
+        Event::Wake(t) => crate::servers::wake_refusal(st.task[t.0 as usize]),
+        Event::Suspend(t) => crate::servers::suspend_refusal(st.task[t.0 as usize]),
+        Event::Dispatch(s) => crate::servers::dispatch_refusal(st, s, st.server[s.0 as usize]),
+        Event::Preempt(s) => crate::servers::preempt_refusal(st.server[s.0 as usize]),
         Event::Elapse(n) => crate::servers::elapse_refusal(st, n),
-        Event::Recharge(s) => crate::servers::recharge_refusal(st, s),
-        Event::Lock(t, r) => crate::locks::lock_refusal(st, t, r),
-        Event::Unlock(t, r) => crate::locks::unlock_refusal(st, t, r),
+        Event::Recharge(s) => crate::servers::recharge_refusal(st, s, st.server[s.0 as usize]),
+        Event::Lock(t, r) => {
+            if !model::entries::in_use(st.resources, r as usize) {
+                return Verdict::Refused(3);
+            }
+            crate::locks::lock_refusal(st, t, r, st.task[t.0 as usize], st.resource[r as usize])
+        }
+        Event::Unlock(t, r) => {
+            if !model::entries::in_use(st.resources, r as usize) {
+                return Verdict::Refused(3);
+            }
+            crate::locks::unlock_refusal(t, r, st.task[t.0 as usize], st.resource[r as usize])
+        }
     }
 }
 

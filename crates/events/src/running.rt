@@ -7,11 +7,11 @@ use model::State;
 pub fn running_count(st: State) -> u16
     ensures { λ r. ⌜ r ≡ countTo 16 (runningAt st) ⌝ }
 {
-    let tasks = st.tasks;
+    let servers = st.server;
     let mut count: u16 = 0;
     for s in 0..16usize {
-        if model::entries::in_use(tasks, s) {
-            let server = st.server[s];
+        if model::entries::in_use(st.tasks, s) {
+            let server = servers[s];
             let phase = server.phase;
             count += model::entries::one_if(model::entries::is_running(phase));
         }

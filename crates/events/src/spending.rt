@@ -9,7 +9,7 @@ ghost use Rattle.model.specs.State.{running};
 ghost use Rattle.model.specs.Sound.{each, sound};
 ghost use Rattle.model.specs.Step.{affords};
 ghost use Rattle.chain.specs.Arrays.{endsOf};
-ghost use Rattle.events.specs.Spending.{spentBy, spentServers, tickedBy, tickedTasks};
+ghost use Rattle.events.specs.Computed.{spentBy, spentServers, tickedBy, tickedTasks};
 use crate::turning::Turned;
 use model::Phase;
 use model::Server;
@@ -33,11 +33,11 @@ fn affords_ticks(server: Server, n: u32) -> bool
 pub fn all_afford(st: State, n: u32) -> bool
     ensures { λ r. ⌜ r ≡ each st (affords st n) ⌝ }
 {
-    let tasks = st.tasks;
+    let servers = st.server;
     let mut all = true;
     for s in 0..16usize {
-        if model::entries::in_use(tasks, s) {
-            let server = st.server[s];
+        if model::entries::in_use(st.tasks, s) {
+            let server = servers[s];
             all = model::entries::both(all, affords_ticks(server, n));
         }
     }
@@ -104,15 +104,16 @@ pub fn spent_servers(st: State, ends: [TaskNo; 16], n: u32) -> Turned
     requires { ⌜ each st (affords st n) ≡ true ⌝ }
     ensures { λ r. ⌜ r ≡ spentServers st n ⌝ }
 {
-    let tasks = st.tasks;
-    let mut servers = st.server;
+    let before = st.server;
+    let served = st.task;
+    let mut servers = before;
     let mut count: u16 = 0;
     for s in 0..16usize {
-        if model::entries::in_use(tasks, s) {
-            let server = st.server[s];
+        if model::entries::in_use(st.tasks, s) {
+            let server = before[s];
             let phase = server.phase;
             let end = ends[s];
-            let task = st.task[end.0 as usize];
+            let task = served[end.0 as usize];
             let runs = task.runs;
             let executor = model::entries::executor_in(runs);
             let executes = model::entries::both(
@@ -154,11 +155,11 @@ pub fn ticked_tasks(st: State, n: u32) -> [Task; 16]
     requires { ⌜ st .clock + n ≤ 4000000000 ⌝ }
     ensures { λ r. ⌜ r ≡ tickedTasks st n ⌝ }
 {
-    let tasks = st.tasks;
-    let mut ticked = st.task;
+    let before = st.task;
+    let mut ticked = before;
     for t in 0..16usize {
-        if model::entries::in_use(tasks, t) {
-            let task = st.task[t];
+        if model::entries::in_use(st.tasks, t) {
+            let task = before[t];
             ticked[t] = ticked_task(task, n);
         }
     }

@@ -7,7 +7,7 @@ ghost use Rattle.laws.specs.Tests.{if_then_else_};
 ghost use Rattle.model.specs.State.{here, serverAt};
 ghost use Rattle.model.specs.Events.{refilled};
 ghost use Rattle.chain.specs.Arrays.{endsOf};
-ghost use Rattle.events.specs.Turning.{concerns, turned, Timely, turnedServers, modeAfter};
+ghost use Rattle.events.specs.Computed.{concerns, turned, Timely, turnedServers, modeAfter};
 use model::Mode;
 use model::Phase;
 use model::Server;
@@ -39,7 +39,7 @@ fn concerned(turn: Turn, phase: Phase) -> bool
     }
 }
 
-// With budget Q and deadline clock + P.
+// With a full budget, and the deadline one period from now.
 pub fn refilled(server: Server, phase: Phase, clock: u32) -> Server
     requires { ⌜ clock + server .period < 4294967296 ⌝ }
     ensures { λ r. ⌜ r ≡ refilled phase clock server ⌝ }
@@ -77,17 +77,16 @@ pub fn turned_servers(st: State, ends: [TaskNo; 16], task: TaskNo, turn: Turn) -
     requires { ⌜ ((i : ℕ) → here st i ≡ true → Timely turn (st .clock + serverAt st i .period)) ⌝ }
     ensures { λ r. ⌜ r ≡ turnedServers turn st (task .0) ⌝ }
 {
-    let tasks = st.tasks;
-    let clock = st.clock;
-    let mut servers = st.server;
+    let before = st.server;
+    let mut servers = before;
     let mut count: u16 = 0;
     for s in 0..16usize {
-        if model::entries::in_use(tasks, s) {
-            let server = st.server[s];
+        if model::entries::in_use(st.tasks, s) {
+            let server = before[s];
             let phase = server.phase;
             let end = ends[s];
             let turns = model::entries::both(concerned(turn, phase), end.0 == task.0);
-            servers[s] = turned_if(turns, turn, server, clock);
+            servers[s] = turned_if(turns, turn, server, st.clock);
             count += model::entries::one_if(turns);
         }
     }

@@ -68,4 +68,6 @@ each-unique = record {
   both = λ f g p q κ a. (p κ a ∙ sym (q κ a), refl);
   either = λ f g p q κ a. (p κ a ∙ sym (q κ a), refl);
   one-if = λ f g p q κ a. (p κ a ∙ sym (q κ a), refl);
+  or-else = λ f g p q κ a. (p κ a ∙ sym (q κ a), refl);
+  refused-if = λ f g p q κ a. (p κ a ∙ sym (q κ a), refl);
 }

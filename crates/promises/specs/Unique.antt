@@ -69,6 +69,8 @@ use Rattle.model.proofs.limits.quota_fits.Reads as QuotaFits
 use Rattle.model.proofs.entries.both.Reads as Both
 use Rattle.model.proofs.entries.either.Reads as Either
 use Rattle.model.proofs.entries.one_if.Reads as OneIf
+use Rattle.model.proofs.verdicts.or_else.Reads as OrElse
+use Rattle.model.proofs.verdicts.refused_if.Reads as RefusedIf
 
 -- Any two functions from the inputs to the answer and to the arguments at exit that meet the contract agree on every input: in the answer, which
 -- has the state where one is returned, and in the lent memory at exit. (κ are the lifetimes of what is lent.)
@@ -158,3 +160,5 @@ pub record EachUnique : Type 0 where
   pub both : Unique Both.Post
   pub either : Unique Either.Post
   pub one-if : Unique OneIf.Post
+  pub or-else : Unique OrElse.Post
+  pub refused-if : Unique RefusedIf.Post

@@ -22,11 +22,11 @@ use Rattle.model.specs.declared.TaskNo.{TaskNo}
 use Rattle.model.specs.declared.ServerNo.{ServerNo}
 use Rattle.model.specs.declared.Task.{Task}
 use Rattle.model.specs.declared.State.{State}
-use Rattle.model.specs.State.{places, nobody, noTask, taskAt, inUse, here, executorOf, served, runningAt, runningFor}
+use Rattle.model.specs.State.{places, nobody, noTask, taskAt, inUse, here, placeNo, executorOf, served, runningAt, runningFor}
 use Rattle.model.specs.RuleH.{budgetAt, chosen, executorBy, runsIn, withRuns, withTasks, settledTask, settled}
 use Rattle.model.proofs.Chain.{here-past}
-use Rattle.chain.specs.Arrays.{serverOf, serversOf, endsOf, executorsOf, onAt, onBy, budgetIn, budgetsOf}
-use Rattle.chain.proofs.Arrays.{tasks-at, servers-at, servers-same, ends-at, executors-at}
+use Rattle.chain.specs.Arrays.{serverOf, serversOf, endsOf, onAt, onBy, budgetIn, budgetsOf}
+use Rattle.chain.proofs.Arrays.{tasks-at, servers-at, servers-same, ends-at}
 use Rattle.settle.specs.Computed.{servesBy, betterBy, budgetBy, bestBy, bestsBy, executorIn, settledTaskBy, settledTo, settledBy}
 
 running-past : (st : State) (s : ℕ) → places ≤ s → runningAt st s ≡ false
@@ -118,34 +118,36 @@ module _ (on : List TaskNo) (budgets : List ℕ) where
   bests-done xs s l m e = turns-done (λ n. serversOf (bestBy on budgets n)) s places xs l m e
 
 -- the loop that writes the executors
-module _ (on : List TaskNo) (best before : List ServerNo) (acting : ℕ) (st : State) where
-  pub settled-none : st ≡ settledTo on best before acting st 0
+module _ (on : List TaskNo) (best : List ServerNo) (acting : ℕ) (st : State) where
+  pub settled-none : st ≡ settledTo on best acting st 0
   unfolding settledTo setTo
   settled-none = refl
 
   -- entries that the loop has not reached are as they were
-  ahead : (t : ℕ) (after : State) → after ≡ settledTo on best before acting st t → taskAt after t ≡ taskAt st t
+  ahead : (t : ℕ) (after : State) → after ≡ settledTo on best acting st t → taskAt after t ≡ taskAt st t
   unfolding settledTo
   ahead t after so-far = ap (λ a. taskAt a t) so-far ∙ set-past t t _ (st .task) noTask (omega arith)
 
   pub settled-more
-      : (t : ℕ) (s : ServerNo) (runs : Runs) (entry : Task) (after : State)
+      : (t : ℕ) (before s : ServerNo) (runs : Runs) (entry : Task) (after : State)
       → inUse (st .tasks) t ≡ true
-      → s ≡ record { 0 = executorIn on (getD before t (record { 0 = 0 }) .0) acting (getD best t (record { 0 = 0 }) .0) t }
+      → before ≡ record { 0 = placeNo (taskAt after t .runs) }
+      → s ≡ record { 0 = executorIn on (before .0) acting (getD best t (record { 0 = 0 }) .0) t }
       → runs ≡ runsIn (s .0)
       → entry ≡ withRuns runs (taskAt after t)
-      → after ≡ settledTo on best before acting st t
-      → withTasks (set (after .task) t entry) after ≡ settledTo on best before acting st (t + 1)
-  unfolding settledTo settledTaskBy here
-  settled-more t s runs entry after used e x w so-far =
+      → after ≡ settledTo on best acting st t
+      → withTasks (set (after .task) t entry) after ≡ settledTo on best acting st (t + 1)
+  unfolding settledTo settledTaskBy here executorOf
+  settled-more t before s runs entry after used p e x w so-far =
+      let was = ap (λ b. b .0) p ∙ ap (λ k. placeNo (k .runs)) (ahead t after so-far) in
       ap (λ a. withTasks (set (a .task) t entry) a) so-far
-      ∙ ap (λ ts. withTasks ts st) (set-more _ t _ _ entry (w ∙ ap (withRuns runs) (ahead t after so-far) ∙ rw (used, x, e)) refl)
+      ∙ ap (λ ts. withTasks ts st) (set-more _ t _ _ entry (w ∙ ap (withRuns runs) (ahead t after so-far) ∙ rw (used, x, e, was)) refl)
 
   pub settled-skip
       : (t : ℕ) (after : State)
       → inUse (st .tasks) t ≡ false
-      → after ≡ settledTo on best before acting st t
-      → after ≡ settledTo on best before acting st (t + 1)
+      → after ≡ settledTo on best acting st t
+      → after ≡ settledTo on best acting st (t + 1)
   unfolding settledTo settledTaskBy here
   settled-skip t after past so-far = so-far ∙ ap (λ ts. withTasks ts st) (set-skip _ t (st .task) _ noTask (rw past) refl)
 
@@ -200,42 +202,34 @@ module _ (st : State) where
   unfolding executorIn executorBy
   executor-is before acting t l = rw (serves-is t before l, serves-is t acting l, best-is-chosen t l)
 
-  -- `old` is any state that has as many tasks
-  module _ (old : State) (count : old .tasks ≡ st .tasks) (acting : ℕ) where
-    before-at : (t : ℕ) → here st t ≡ true → getD (executorsOf old) t (record { 0 = 0 }) .0 ≡ executorOf old t
-    unfolding here
-    before-at t h = executors-at old t (rw count h)
+  task-is : (acting t : ℕ) → t < places → settledTaskBy on (bestsBy on budgets) acting st t ≡ settledTask st acting st t
+  unfolding settledTaskBy settledTask
+  task-is acting t l = split (here st t) (λ y. rw (y, executor-is (executorOf st t) acting t l)) (λ n. rw n)
 
-    task-is
-        : (t : ℕ) → t < places → settledTaskBy on (bestsBy on budgets) (executorsOf old) acting st t ≡ settledTask old acting st t
-    unfolding settledTaskBy settledTask
-    task-is t l =
-        split
-        (here st t)
-        (λ y. rw (y, before-at t y, executor-is (executorOf old t) acting t l))
-        (λ n. rw n)
-
-    settled-by : settledBy (endsOf st) (executorsOf old) acting st ≡ settled old acting st
-    unfolding settledBy settledTo settled
-    settled-by = ap (λ ts. withTasks ts st) (set-same _ _ places (st .task) task-is)
+  settled-by : (acting : ℕ) → settledBy (endsOf st) acting st ≡ settled st acting st
+  unfolding settledBy settledTo settled
+  settled-by acting = ap (λ ts. withTasks ts st) (set-same _ _ places (st .task) (task-is acting))
 
 -- the loop's end
 pub settled-done
-    : (ends on : List TaskNo) (budgets : List ℕ) (best before : List ServerNo) (acting : ℕ) (st after : State) (t : ℕ)
+    : (ends on : List TaskNo) (budgets : List ℕ) (best : List ServerNo) (acting : ℕ) (st after : State) (t : ℕ)
     → ends ≡ endsOf st
     → on ≡ onBy (st .server) (st .tasks) ends
     → budgets ≡ budgetsOf (st .server) (st .tasks)
     → best ≡ bestsBy on budgets
     → t ≤ places
     → places ≤ t
-    → after ≡ settledTo on best before acting st t
-    → (old : State)
-    → old .tasks ≡ st .tasks
-    → before ≡ executorsOf old
-    → after ≡ settled old acting st
+    → after ≡ settledTo on best acting st t
+    → after ≡ settled st acting st
 unfolding settledBy
-settled-done ends on budgets best before acting st after t n o b m l g so-far old count e =
-    turns-done (settledTo on best before acting st) t places after l g so-far
-    ∙ ap₂ (λ x y. settledTo x y before acting st places) o (m ∙ ap₂ bestsBy o b)
-    ∙ ap₂ (λ x y. settledBy x y acting st) n e
-    ∙ settled-by st old count acting
+settled-done ends on budgets best acting st after t n o b m l g so-far =
+    turns-done (settledTo on best acting st) t places after l g so-far
+    ∙ ap₂ (λ x y. settledTo x y acting st places) o (m ∙ ap₂ bestsBy o b)
+    ∙ ap (λ x. settledBy x acting st) n
+    ∙ settled-by st acting
+
+-- of the state before only who executed counts
+pub settled-before : (old st : State) (acting : ℕ) → ((t : ℕ) → executorOf old t ≡ executorOf st t) → settled st acting st ≡ settled old acting st
+unfolding settled settledTask
+settled-before old st acting same =
+    ap (λ ts. withTasks ts st) (set-same _ _ places (st .task) (λ t l. rw (same t)))

@@ -11,7 +11,7 @@ use Rattle.model.specs.declared.TaskNo.{TaskNo}
 use Rattle.model.specs.declared.ServerNo.{ServerNo}
 use Rattle.model.specs.declared.Task.{Task}
 use Rattle.model.specs.declared.State.{State}
-use Rattle.model.specs.State.{places, nobody, taskAt, here}
+use Rattle.model.specs.State.{places, nobody, taskAt, here, executorOf}
 use Rattle.model.specs.RuleH.{runsIn, withRuns, withTasks}
 use Rattle.chain.specs.Arrays.{serversOf, onBy, budgetsOf}
 
@@ -38,21 +38,21 @@ bestsBy on budgets = serversOf (bestBy on budgets places)
 unfoldable pub executorIn : List TaskNo → ℕ → ℕ → ℕ → ℕ → ℕ
 executorIn on before acting most t = if servesBy on t before then before else if servesBy on t acting then acting else most
 
-unfoldable pub settledTaskBy : List TaskNo → List ServerNo → List ServerNo → ℕ → State → ℕ → Task
-settledTaskBy on best before acting st t =
+-- who executed a task before is what its entry still says
+unfoldable pub settledTaskBy : List TaskNo → List ServerNo → ℕ → State → ℕ → Task
+settledTaskBy on best acting st t =
     if here st t
-    then withRuns (runsIn (executorIn on (getD before t (record { 0 = 0 }) .0) acting (getD best t (record { 0 = 0 }) .0) t)) (taskAt st t)
+    then withRuns (runsIn (executorIn on (executorOf st t) acting (getD best t (record { 0 = 0 }) .0) t)) (taskAt st t)
     else taskAt st t
 
 -- the first n tasks done
-unfoldable pub settledTo : List TaskNo → List ServerNo → List ServerNo → ℕ → State → ℕ → State
-settledTo on best before acting st n = withTasks (setTo n (settledTaskBy on best before acting st) (st .task)) st
+unfoldable pub settledTo : List TaskNo → List ServerNo → ℕ → State → ℕ → State
+settledTo on best acting st n = withTasks (setTo n (settledTaskBy on best acting st) (st .task)) st
 
-unfoldable pub settledBy : List TaskNo → List ServerNo → ℕ → State → State
-settledBy ends before acting st =
+unfoldable pub settledBy : List TaskNo → ℕ → State → State
+settledBy ends acting st =
     settledTo (onBy (st .server) (st .tasks) ends)
     (bestsBy (onBy (st .server) (st .tasks) ends) (budgetsOf (st .server) (st .tasks)))
-    before
     acting
     st
     places

@@ -1,5 +1,4 @@
--- What a server is doing: "A Running server either executes the task that it serves or spins." A number that is not in use is not running.
--- Assumes nothing.
+-- What a server is doing (rule 3.4). A number that is not in use is not running. Assumes nothing.
 use mathlib.Core.Option.{Option, none, some}
 use Prim.Native.Nat.{ℕ}
 use Rattle.laws.specs.Tests.{if_then_else_}
@@ -14,7 +13,7 @@ unfoldable pub doing : State → ℕ → Doing
 doing st s =
     if runningAt st s then (if executes st s then Executes (record { 0 = served st s }) else Spins (record { 0 = served st s })) else NotRunning
 
--- document 01's word and the task's number; it has none for a server that is not Running
+-- the word of rule 7 and the task's number; the rules have none for a server that is not Running
 abbrev pub saidDoing : Doing → Option (Word × ℕ)
 saidDoing (Executes t) = some (word.executes, t .0)
 saidDoing (Spins t) = some (word.spins, t .0)

@@ -3,8 +3,9 @@
 ghost use mathlib.Core.Path.{_≡_};
 ghost use Prim.Native.Nat.{_<_};
 ghost use Rattle.model.specs.RuleH.{runsIn, settled};
-ghost use Rattle.chain.specs.Arrays.{endsOf, executorsOf};
+ghost use Rattle.chain.specs.Arrays.{endsOf};
 ghost use Rattle.settle.specs.Computed.{servesBy, betterBy, bestsBy, executorIn};
+use model::NOBODY;
 use model::Runs;
 use model::ServerNo;
 use model::State;
@@ -40,11 +41,11 @@ fn better(budgets: [u32; 16], s: usize, best: ServerNo) -> ServerNo
     }
 }
 
-// Step 3 for all tasks in one pass: of the Running servers that serve a task, the one with the most remaining budget, lowest number in a tie.
+// Rule 6.3 for all tasks in one pass over the servers.
 fn bests(on: [TaskNo; 16], budgets: [u32; 16]) -> [ServerNo; 16]
     ensures { λ r. ⌜ r ≡ bestsBy on budgets ⌝ }
 {
-    let mut xs = [ServerNo(16); 16];
+    let mut xs = [ServerNo(NOBODY); 16];
     for s in 0..16usize {
         let served = on[s];
         let t = served.0 as usize;
@@ -56,7 +57,7 @@ fn bests(on: [TaskNo; 16], budgets: [u32; 16]) -> [ServerNo; 16]
     xs
 }
 
-// Rule H for task t, where `most` is the server of step 3.
+// Rule H for task t, where `most` is the server of rule 6.3.
 fn executor(
     on: [TaskNo; 16],
     before: ServerNo,
@@ -66,15 +67,15 @@ fn executor(
 ) -> ServerNo
     ensures { λ r. ⌜ r ≡ record { 0 = executorIn on (before .0) (acting .0) (most .0) t } ⌝ }
 {
-    // Step 1: the server that executed it before keeps it if still Running and serving it.
+    // rule 6.1
     if serves(on, t, before) {
         return before;
     }
-    // Step 2: else, after a lock or unlock, the server that executed the acting task, if it now serves this one.
+    // rule 6.2
     if serves(on, t, acting) {
         return acting;
     }
-    // Step 3: else the one with the most remaining budget, lowest number in a tie.
+    // rule 6.3
     most
 }
 
@@ -84,12 +85,12 @@ fn runs_in(s: ServerNo) -> Runs
     if s.0 < 16 { Runs::In(s) } else { Runs::Nowhere }
 }
 
-// The state after rule H: `before` says who executed each task before the event, `acting` is the server that executed the task that locked or
-// unlocked, or 16, `ends` are the chain ends of the changed state, `st`. It is document 01's for every state `old` in which those executed.
+// The state after rule H: `acting` is the server that executes the task that locked or unlocked, or nobody, `ends` are the chain ends. No event's own
+// change says anew where a task executes, so that who executed before is what the changed state says.
 // It writes into the state that it is given: a copy of it would be a third of its time.
-pub fn settled(before: [ServerNo; 16], acting: ServerNo, ends: [TaskNo; 16], mut st: State) -> State
+pub fn settled(acting: ServerNo, ends: [TaskNo; 16], mut st: State) -> State
     requires { ⌜ ends ≡ endsOf st ⌝ }
-    ensures { λ r. ⌜ ((old : State) → old .tasks ≡ st .tasks → before ≡ executorsOf old → r ≡ settled old (acting .0) st) ⌝ }
+    ensures { λ r. ⌜ r ≡ settled st (acting .0) st ⌝ }
 {
     let count = st.tasks;
     let servers = st.server;
@@ -99,7 +100,8 @@ pub fn settled(before: [ServerNo; 16], acting: ServerNo, ends: [TaskNo; 16], mut
     for t in 0..16usize {
         if model::entries::in_use(count, t) {
             let entry = st.task[t];
-            let s = executor(on, before[t], acting, best[t], t);
+            let runs = entry.runs;
+            let s = executor(on, model::entries::executor_in(runs), acting, best[t], t);
             st.task[t] = model::builders::with_runs(entry, runs_in(s));
         }
     }

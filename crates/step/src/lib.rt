@@ -1,4 +1,3 @@
 // One event at a time: the layer's entry point. It takes any state whatever and any event.
-mod acting;
 mod answer;
 pub mod step;

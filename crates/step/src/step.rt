@@ -5,25 +5,23 @@ ghost use mathlib.Core.Option.{none};
 ghost use Rattle.model.specs.Sound.{sound};
 ghost use Rattle.model.specs.Step.{outcome, attempted, stepped};
 ghost use Rattle.model.specs.Said.{said};
-ghost use Rattle.events.specs.Verdicts.{Clear};
-use events::Verdict;
+ghost use Rattle.events.specs.Changes.{Clear};
 use model::Event;
 use model::Outcome;
 use model::State;
+use model::Verdict;
 
 // An event that no test refuses, on a sound state.
 fn taken(st: State, e: Event) -> Outcome
     requires { ⌜ Clear st e ⌝ }
     ensures { λ r. ⌜ r ≡ outcome none st e ⌝ }
 {
-    let before = chain::servers::executors(st);
     let change = events::event::changed(st, e);
-    let changed = change.state;
+    let answer = change.answer;
     let ends = change.ends;
-    let acting = crate::acting::acting_server(before, e);
-    let after = settle::rule::settled(before, acting, ends, changed);
+    let after = settle::rule::settled(change.acting, ends, change.state);
     Outcome {
-        answer: crate::answer::answered(st, after, ends, change.count, e),
+        answer: crate::answer::answered(answer, after, ends, e),
         state: after,
     }
 }
@@ -34,10 +32,10 @@ pub fn attempted(st: State, e: Event) -> Outcome
     ensures { λ r. ⌜ r ≡ attempted st e ⌝ }
 {
     let verdict = events::event::refusal(st, e);
-    match verdict {
-        Verdict::Refused(n) => model::builders::refused(st, n),
-        Verdict::Accepted => taken(st, e),
+    if let Verdict::Refused(n) = verdict {
+        return model::builders::refused(st, n);
     }
+    taken(st, e)
 }
 
 // The answer to an event, and the next state. An unsound state is refused and handed back as it came.

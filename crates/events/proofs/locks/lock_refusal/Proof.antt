@@ -1,55 +1,50 @@
--- `events::locks::lock_refusal` meets its contract: a return for each test. Assumes nothing.
-use mathlib.Core.Path.{_∙_}
+-- `events::locks::lock_refusal` meets its contract. A return for each test. Assumes nothing.
+use mathlib.Core.Path.{sym, _∙_}
 use borrow.Author.Needs.{needs}
+use borrow.Author.Tests.{eq-eqb, ne-eqb}
 use Rattle.laws.specs.Tests.{firstOf}
-use Rattle.model.specs.State.{here, present, declares, executing}
+use Rattle.model.specs.State.{executing, declares}
 use Rattle.model.specs.Step.{endsAt}
-use Rattle.events.specs.Computed.{contests}
-use Rattle.events.proofs.Refusals.{told-no, told-yes, used-below}
+use Rattle.events.proofs.Refusals.{told-no, told-yes, last-test}
 use Rattle.events.proofs.locks.lock_refusal.Statement.{statement}
 use Rattle.events.proofs.locks.lock_refusal.Tie as tie
 
 pub lock-refusal-spec : {M : Type 1} → statement M
-unfolding firstOf here present declares executing endsAt contests
+unfolding firstOf executing declares endsAt
 lock-refusal-spec =
     tie.close
     (tie.spec
-    (λ c. search needs)
-    (λ c κs. search needs)
-    (λ c. rw (told-no (c .before .in-use .ensures) (c .if1 .taken)))
     (λ c κs. search needs)
     (λ c.
-    let task = c .before .before in
-    rw (told-yes (task .before .in-use .ensures) (task .if1 .left), told-no (c .before .in-use2 .ensures) (c .if2 .taken)))
-    (λ c. search needs)
-    (λ c.
-    let task = c .before .before in
-    used-below _ _ (told-yes (task .before .in-use .ensures) (task .if1 .left)))
-    (λ c κs. search needs)
-    (λ c.
-    let resource = c .before .before .before in
-    let task = resource .before .before in
-    rw
-    (told-yes (task .before .in-use .ensures) (task .if1 .left), told-yes (resource .before .in-use2 .ensures) (resource .if2 .left), told-no (c .before .in-set .ensures) (c .if3 .taken)))
+    let pre = c .before .before .pre in
+    rw (pre .0 .0, pre .0 .1, ← (pre .1 .0), ← (pre .1 .1), told-no (c .before .in-set .ensures) (c .if1 .taken)))
     (λ c κs. search needs)
     (λ c.
     let declared = c .before .before in
-    let resource = declared .before .before .before in
-    let task = resource .before .before in
-    rw
-    (told-yes (task .before .in-use .ensures) (task .if1 .left), told-yes (resource .before .in-use2 .ensures) (resource .if2 .left), told-yes (declared .before .in-set .ensures) (declared .if3 .left), told-no (c .before .is-placed .ensures) (c .if4 .taken)))
+    let pre = declared .before .before .pre in
+    rw (pre .0 .0, pre .0 .1, ← (pre .1 .0), ← (pre .1 .1), told-yes (declared .before .in-set .ensures) (declared .if1 .left), told-no (c .before .is-placed .ensures) (c .if2 .taken)))
+    (λ c κs. search needs)
     (λ c. search needs)
     (λ c.
-    let resource = c .before .before .before .before .before in
-    used-below _ _ (told-yes (resource .before .in-use2 .ensures) (resource .if2 .left)))
-    (λ c κs.
-    let task = c .before .before .before .before .before .before .before .before in
-    used-below _ _ (told-yes (task .before .in-use .ensures) (task .if1 .left)))
-    (λ c.
-    let runs = c .before .before in
+    let runs = c .before .before .before in
     let declared = runs .before .before in
-    let resource = declared .before .before .before in
-    let task = resource .before .before in
-    c .contest .ensures
-    ∙ rw
-    (told-yes (task .before .in-use .ensures) (task .if1 .left), told-yes (resource .before .in-use2 .ensures) (resource .if2 .left), told-yes (declared .before .in-set .ensures) (declared .if3 .left), told-yes (runs .before .is-placed .ensures) (runs .if4 .left))))
+    let pre = declared .before .before .pre in
+    rw (pre .0 .0, pre .0 .1, ← (pre .1 .0), ← (pre .1 .1), told-yes (declared .before .in-set .ensures) (declared .if1 .left), told-yes (runs .before .is-placed .ensures) (runs .if2 .left), eq-eqb _ _ (sym (c .before .before .owner-no .ensures) ∙ c .if3 .taken)))
+    (λ c. search needs)
+    (λ c. search needs)
+    (λ c κs. search needs)
+    (λ c κs. search needs)
+    (λ c.
+    let other = c .before .before in
+    let runs = other .before .before .before in
+    let declared = runs .before .before in
+    let pre = declared .before .before .pre in
+    rw (pre .0 .0, pre .0 .1, ← (pre .1 .0), ← (pre .1 .1), told-yes (declared .before .in-set .ensures) (declared .if1 .left), told-yes (runs .before .is-placed .ensures) (runs .if2 .left), ne-eqb _ _ (λ e. other .if3 .left (other .before .before .owner-no .ensures ∙ e)), c .enum-told .given .1))
+    (λ c.
+    let told = c .before .before .before in
+    let other = told .before .before in
+    let runs = other .before .before .before in
+    let declared = runs .before .before in
+    let pre = declared .before .before .pre in
+    rw (pre .0 .0, pre .0 .1, ← (pre .1 .0), ← (pre .1 .1), told-yes (declared .before .in-set .ensures) (declared .if1 .left), told-yes (runs .before .is-placed .ensures) (runs .if2 .left), ne-eqb _ _ (λ e. other .if3 .left (other .before .before .owner-no .ensures ∙ e)), told .owner .given .1)
+    (last-test 16 _ _ _ (c .refused-if .ensures) (c .before .closes .ensures))))

@@ -16,8 +16,8 @@ unfolding here
 running-count-spec =
     tie.close
     (tie.spec
-    (λ st tasks count₀ s₀ count s. (s ≤ 16) × (count ≤ s) × (count ≡ countTo s (runningAt st)))
-    (λ st tasks count₀ s₀ count s. 16 - s)
+    (λ st servers count₀ s₀ count s. (s ≤ 16) × (count ≤ s) × (count ≡ countTo s (runningAt st)))
+    (λ st servers count₀ s₀ count s. 16 - s)
     (λ c. (omega arith, omega arith, count-none _))
     (λ c κs. search needs)
     (λ c. omega arith)

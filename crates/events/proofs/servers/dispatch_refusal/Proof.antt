@@ -1,33 +1,27 @@
--- `events::servers::dispatch_refusal` meets its contract: a return for each test. Assumes nothing.
+-- `events::servers::dispatch_refusal` meets its contract. A return for each test. Assumes nothing.
 use borrow.Author.Needs.{needs}
+use mathlib.Core.Path.{ap}
 use Rattle.laws.specs.Tests.{firstOf}
-use Rattle.model.specs.State.{here}
-use Rattle.events.proofs.Refusals.{told-no, told-yes, used-below, crowded-yes, crowded-no}
+use lib.Dec.{leb}
+use Rattle.model.specs.Step.{crowded}
+use Rattle.events.proofs.Refusals.{told-no, told-yes, last-test}
 use Rattle.events.proofs.servers.dispatch_refusal.Statement.{statement}
 use Rattle.events.proofs.servers.dispatch_refusal.Tie as tie
 
 pub dispatch-refusal-spec : {M : Type 1} → statement M
-unfolding firstOf here
+unfolding firstOf crowded
 dispatch-refusal-spec =
     tie.close
     (tie.spec
-    (λ c. search needs)
-    (λ c κs. search needs)
-    (λ c. rw (told-no (c .before .in-use .ensures) (c .if1 .taken)))
-    (λ c. search needs)
-    (λ c. used-below _ _ (told-yes (c .before .in-use .ensures) (c .if1 .left)))
     (λ c κs. search needs)
     (λ c.
-    let used = c .before .before .before in
-    rw (told-yes (used .before .in-use .ensures) (used .if1 .left), told-no (c .before .is-active .ensures) (c .if2 .taken)))
+    let pre = c .before .before .pre in
+    rw (pre .0, ← (pre .1), told-no (c .before .is-active .ensures) (c .if1 .taken)))
+    (λ c κs. search needs)
     (λ c κs. search needs)
     (λ c.
-    let active = c .before .before in
-    let used = active .before .before .before in
-    rw
-    (told-yes (used .before .in-use .ensures) (used .if1 .left), told-yes (active .before .is-active .ensures) (active .if2 .left), crowded-yes _ _ (c .before .running-count .ensures) (c .if3 .taken)))
-    (λ c.
-    let active = c .before .before in
-    let used = active .before .before .before in
-    rw
-    (told-yes (used .before .in-use .ensures) (used .if1 .left), told-yes (active .before .is-active .ensures) (active .if2 .left), crowded-no _ _ (c .before .running-count .ensures) (c .if3 .left))))
+    let counted = c .before .before in
+    let active = counted .before in
+    let start = active .before .before in
+    rw (start .pre .0, ← (start .pre .1), told-yes (active .before .is-active .ensures) (active .if1 .left))
+    (last-test 8 _ _ _ (c .refused-if .ensures) (ap (leb (start .args .st .processors)) (counted .running-count .ensures)))))

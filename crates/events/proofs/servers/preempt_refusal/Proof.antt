@@ -1,25 +1,15 @@
--- `events::servers::preempt_refusal` meets its contract: a return for each test. Assumes nothing.
+-- `events::servers::preempt_refusal` meets its contract. Assumes nothing.
 use borrow.Author.Needs.{needs}
-use Rattle.laws.specs.Tests.{firstOf}
-use Rattle.model.specs.State.{here}
-use Rattle.events.proofs.Refusals.{told-no, told-yes, used-below}
+use mathlib.Core.Path.{ap, _∙_}
+use mathlib.Core.Bool.{not}
+use Rattle.model.specs.Verdicts.{refusedIf}
 use Rattle.events.proofs.servers.preempt_refusal.Statement.{statement}
 use Rattle.events.proofs.servers.preempt_refusal.Tie as tie
 
 pub preempt-refusal-spec : {M : Type 1} → statement M
-unfolding firstOf here
 preempt-refusal-spec =
     tie.close
     (tie.spec
-    (λ c. search needs)
     (λ c κs. search needs)
-    (λ c. rw (told-no (c .before .in-use .ensures) (c .if1 .taken)))
-    (λ c. search needs)
-    (λ c. used-below _ _ (told-yes (c .before .in-use .ensures) (c .if1 .left)))
     (λ c κs. search needs)
-    (λ c.
-    let used = c .before .before .before in
-    rw (told-yes (used .before .in-use .ensures) (used .if1 .left), told-no (c .before .is-running .ensures) (c .if2 .taken)))
-    (λ c.
-    let used = c .before .before .before in
-    rw (told-yes (used .before .in-use .ensures) (used .if1 .left), told-yes (c .before .is-running .ensures) (c .if2 .left))))
+    (λ c. c .refused-if .ensures ∙ ap (λ b. refusedIf 9 (not b)) (c .before .is-running .ensures)))

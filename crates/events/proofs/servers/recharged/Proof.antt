@@ -29,6 +29,11 @@ recharged-spec =
     deadline-fits _ (pre .is-sound) _ (clear-grounds _ (Recharge _) pre .0))
     (λ c. search needs)
     (λ c. here-below _ _ (clear-grounds _ (Recharge _) (c .before .before .before .before .before .before .before .before .pre) .0))
+    (λ c. search needs)
+    (λ c. here-below _ _ (clear-grounds _ (Recharge _) (c .before .before .before .before .before .before .before .before .pre) .0))
+    (λ c κs. search needs)
+    (λ c κs. search needs)
     (λ c.
-    let ended = c .before .before .before .before .before .before in
-    recharged-does _ _ _ _ _ (here-below _ _ (clear-grounds _ (Recharge _) (ended .before .before .pre) .0)) (ended .chain-ends .ensures) (c .before .recharged-phase .ensures) (c .refilled .ensures)))
+    let filled = c .before .before .before in
+    let ended = filled .before .before .before .before .before .before in
+    recharged-does _ _ _ _ _ _ _ (here-below _ _ (clear-grounds _ (Recharge _) (ended .before .before .pre) .0)) (ended .chain-ends .ensures) (filled .before .recharged-phase .ensures) (filled .refilled .ensures) (c .before .is-active .ensures) (c .one-if .ensures)))

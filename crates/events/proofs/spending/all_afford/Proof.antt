@@ -18,8 +18,8 @@ unfolding here each
 all-afford-spec =
     tie.close
     (tie.spec
-    (λ n st tasks all₀ s₀ all s. (s ≤ 16) × (all ≡ allTo s (ifHere st (affords st n))))
-    (λ n st tasks all₀ s₀ all s. 16 - s)
+    (λ st n servers all₀ s₀ all s. (s ≤ 16) × (all ≡ allTo s (ifHere st (affords st n))))
+    (λ st n servers all₀ s₀ all s. 16 - s)
     (λ c. (omega arith, all-none _))
     (λ c κs. search needs)
     (λ c. omega arith)

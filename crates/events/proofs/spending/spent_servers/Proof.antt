@@ -20,12 +20,12 @@ unfolding here serverBy
 spent-servers-spec =
     tie.close
     (tie.spec
-    (λ n st ends tasks servers₀ count₀ s₀ servers count s.
+    (λ st n ends before served servers₀ count₀ s₀ servers count s.
     (s ≤ 16) ×
     (count ≤ s) ×
     (count ≡ countTo s (runsOut st n)) ×
     (servers ≡ setTo s (serverBy st (spentServer st n)) (st .server)))
-    (λ n st ends tasks servers₀ count₀ s₀ servers count s. 16 - s)
+    (λ st n ends before served servers₀ count₀ s₀ servers count s. 16 - s)
     (λ c. (omega arith, omega arith, count-none _, set-none _ _))
     (λ c κs. search needs)
     (λ c. omega arith)
@@ -35,10 +35,10 @@ spent-servers-spec =
     (λ c. search needs)
     (λ c.
     let in-loop = c .before .before .before .before .before in
-    omega (arith, end-below _ _ _ (in-loop .before .before .before .pre .0) (in-loop .loop-test .taken)))
+    omega (arith, end-below _ _ _ (in-loop .before .before .before .before .pre .0) (in-loop .loop-test .taken)))
     (λ c.
     let in-loop = c .before .before .before .before .before in
-    end-below _ _ _ (in-loop .before .before .before .pre .0) (in-loop .loop-test .taken))
+    end-below _ _ _ (in-loop .before .before .before .before .pre .0) (in-loop .loop-test .taken))
     (λ c κs. search needs)
     (λ c κs. search needs)
     (λ c. search needs)
@@ -46,7 +46,7 @@ spent-servers-spec =
     (λ c. search needs)
     (λ c κs.
     let taken = c .before .before .before .before .before .before .before .before .before in
-    let start = taken .before .before .before .before .before in
+    let start = taken .before .before .before .before .before .before in
     let used = sym (taken .before .in-use .ensures) ∙ taken .if1 .taken in
     (lasts _ _ (start .pre .1 .1 .1) _ used, accounts-fit _ _ (start .pre .1 .0) (start .pre .1 .1 .0) _ used))
     (λ c. let inside = c .before .before .before .before .before .before .before .before .before .before .before .before .loop-test .taken in omega arith)
@@ -65,7 +65,7 @@ spent-servers-spec =
     let at-loop = c .before .before .before in
     let loop = at-loop .loop in
     let used = sym (c .before .in-use .ensures) in
-    let end = end-served _ _ _ (at-loop .before .before .pre .0) (c .before .before .loop-test .taken) in
+    let end = end-served _ _ _ (at-loop .before .before .before .pre .0) (c .before .before .loop-test .taken) in
     ⊎-elim
     (λ w.
     let here = used ∙ w .0 .taken in

@@ -9,7 +9,7 @@ use Rattle.laws.proofs.Cases.{if-yes, if-no}
 use Rattle.laws.proofs.Set.{set-none, set-more, set-skip, set-done}
 use Rattle.model.specs.State.{here, noTask}
 use Rattle.model.specs.Events.{taskBy, tickedTask}
-use Rattle.events.specs.Spending.{tickedTasks}
+use Rattle.events.specs.Computed.{tickedTasks}
 use Rattle.events.proofs.Ticks.{ticked-here, executed-fits}
 use Rattle.events.proofs.spending.ticked_tasks.Statement.{statement}
 use Rattle.events.proofs.spending.ticked_tasks.Tie as tie
@@ -19,8 +19,8 @@ unfolding here taskBy tickedTasks
 ticked-tasks-spec =
     tie.close
     (tie.spec
-    (λ n st tasks ticked₀ t₀ ticked t. (t ≤ 16) × (ticked ≡ setTo t (taskBy st (tickedTask st n)) (st .task)))
-    (λ n st tasks ticked₀ t₀ ticked t. 16 - t)
+    (λ st n before ticked₀ t₀ ticked t. (t ≤ 16) × (ticked ≡ setTo t (taskBy st (tickedTask st n)) (st .task)))
+    (λ st n before ticked₀ t₀ ticked t. 16 - t)
     (λ c. (omega arith, set-none _ _))
     (λ c κs. search needs)
     (λ c. omega arith)

@@ -10,7 +10,7 @@ use Rattle.laws.proofs.Count.{bit-le, count-none, count-more, count-same}
 use Rattle.laws.proofs.Set.{set-none, set-more, set-skip}
 use Rattle.model.specs.State.{here, noServer}
 use Rattle.model.specs.Events.{serverBy}
-use Rattle.events.specs.Turning.{turns, turnedServer}
+use Rattle.events.specs.Computed.{turns, turnedServer}
 use Rattle.events.proofs.Turns.{end-served, servers-done, turns-here, turns-past, turned-here}
 use Rattle.events.proofs.turning.turned_servers.Statement.{statement}
 use Rattle.events.proofs.turning.turned_servers.Tie as tie
@@ -20,12 +20,12 @@ unfolding here serverBy
 turned-servers-spec =
     tie.close
     (tie.spec
-    (λ task turn st ends tasks clock servers₀ count₀ s₀ servers count s.
+    (λ st task turn ends before servers₀ count₀ s₀ servers count s.
     (s ≤ 16) ×
     (count ≤ s) ×
     (count ≡ countTo s (turns turn st (task .0))) ×
     (servers ≡ setTo s (serverBy st (turnedServer turn st (task .0))) (st .server)))
-    (λ task turn st ends tasks clock servers₀ count₀ s₀ servers count s. 16 - s)
+    (λ st task turn ends before servers₀ count₀ s₀ servers count s. 16 - s)
     (λ c. (omega arith, omega arith, count-none _, set-none _ _))
     (λ c κs. search needs)
     (λ c. omega arith)

@@ -13,17 +13,16 @@ pub settled-spec : {M : Type 1} → statement M
 settled-spec =
     tie.close
     (tie.spec
-    (λ acting before st₀ count on best t₀ st t. (t ≤ 16) × (st ≡ settledTo on best before (acting .0) st₀ t))
-    (λ acting before st₀ count on best t₀ st t. 16 - t)
+    (λ acting st₀ count on best t₀ st t. (t ≤ 16) × (st ≡ settledTo on best (acting .0) st₀ t))
+    (λ acting st₀ count on best t₀ st t. 16 - t)
     (λ c κs. search needs)
     (λ c κs. search needs)
     (λ c κs. search needs)
-    (λ c. (omega arith, settled-none _ _ _ _ _))
+    (λ c. (omega arith, settled-none _ _ _ _))
     (λ c κs. search needs)
     (λ c. omega arith)
     (λ c. omega arith)
-    (λ c. omega arith)
-    (λ c. omega arith)
+    (λ c κs. search needs)
     (λ c. omega arith)
     (λ c. omega arith)
     (λ c κs. search needs)
@@ -39,15 +38,15 @@ settled-spec =
     ⊎-elim
     (λ w. (
       omega arith,
-      w .7 ∙ settled-more _ _ _ _ _ _ _ _ _ _ (test ∙ w .0 .taken) (w .4 .ensures) (w .5 .ensures) (w .6 .ensures) (loop .inv .1),
+      w .7 ∙ settled-more _ _ _ _ _ _ _ _ _ _ (test ∙ w .0 .taken) (w .2 .ensures) (w .4 .ensures) (w .5 .ensures) (w .6 .ensures) (loop .inv .1),
     ))
-    (λ w. (omega arith, w .1 ∙ settled-skip _ _ _ _ _ _ _ (test ∙ w .0 .left) (loop .inv .1)))
+    (λ w. (omega arith, w .1 ∙ settled-skip _ _ _ _ _ _ (test ∙ w .0 .left) (loop .inv .1)))
     (c .if1 .came))
     (λ c.
     let at-loop = c .before in
     let chosen = at-loop .before in
     let budgets = chosen .before in
-    settled-done _ _ _ _ _ _ _ _ _
+    settled-done _ _ _ _ _ _ _ _
     (budgets .before .before .before .pre)
     (budgets .before .running-for .ensures)
     (budgets .budgets .ensures)

@@ -12,9 +12,9 @@ attempted-spec =
     (λ c κs. search needs)
     (λ c. search needs)
     (λ c κs. search needs)
+    (λ c. attempt-refused _ _ _ _ _ (c .before .before .before .before .refusal .ensures) (c .before .before .verdict .given .1) (c .refused .ensures))
     (λ c. search needs)
     (λ c κs. accepted-clear _ _ _ (c .before .before .refusal .ensures) (c .before .before .before .pre) (c .enum-told .given .1))
-    (λ c. attempt-refused _ _ _ _ _ (c .before .before .before .before .refusal .ensures) (c .before .before .verdict .given .1) (c .refused .ensures))
     (λ c.
     let accepted = c .before in
     let tested = accepted .before .before in
