@@ -54,7 +54,7 @@ mod library {
     }
 }
 
-/// What a call answers: a word of document 01 and its number.
+/// What a call answers: a word and its number (rule 10.1).
 #[derive(Clone, Copy, Debug, PartialEq, Eq, Hash)]
 pub enum Answer {
     Ok(u32),

@@ -1,4 +1,4 @@
-// The interference sum and the ordering value, which call one another until tasks and depth run out (rules 12.4 and 12.5). An allowance is
+// The interference sum and the ordering value (rules 12.4 and 12.5). Each calls the other with fewer tasks left or one level deeper. An allowance is
 // spent for each section weighed, and nothing more is weighed once it is exceeded. The table comes as rows of four numbers for each section, their
 // outer resources, and where a calculation's sections stand (`draw`), so that no weighing copies it. A contract says what a function leaves of the
 // allowance (`Spends`) for the calculation of `Interference` that it names, on every table that the arrays show; the law in brackets is what joins the
@@ -65,7 +65,7 @@ fn held_after(outer: &[u16; SECTIONS], held: u16, giver: usize) -> u16
     sets::joined(held, outer[giver - 1])
 }
 
-// The tasks outside B that have a section on the resource (`Steps.blocker-turn`).
+// Who has a section on the resource and is not in B (`Steps.blocker-turn`).
 fn blockers(
     rows: &[[usize; 4]; SECTIONS],
     count: usize,

@@ -9,7 +9,6 @@ pub enum Replayed {
 pub mod buffers;
 mod closing;
 mod events;
-mod fields;
 mod lines;
 mod table;
 pub mod whole;

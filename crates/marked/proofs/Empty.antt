@@ -1,5 +1,5 @@
--- The empty versions that the contracts have to shut out do not meet them, each told apart by an example. Of a step: one that answers `ok 0` to all, one
--- that refuses everything, one that returns the state untouched. Of a replay: one that steps the first event and tells its answer again for the rest. Of
+-- The empty versions that the contracts have to shut out do not meet them, each told apart by an example. Of a step: `ok 0` for every event, a
+-- refusal for every event, the state handed back untouched. Of a replay: one that steps the first event and tells its answer again for the rest. Of
 -- the bound: one that invents its weighings, or the number at which they exceed the allowance. Assumes nothing.
 use mathlib.Core.Path.{_≡_, refl, sym, ap, _∙_}
 use mathlib.Core.List.{List, [], _∷_, _++_}

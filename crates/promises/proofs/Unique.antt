@@ -36,6 +36,7 @@ each-unique = record {
   replay = λ f g p q κ a. (p κ a .0 ∙ sym (q κ a .0), p κ a .1 .0 ∙ sym (q κ a .1 .0));
   file-buffer = λ f g p q κ a. (p κ a .0 ∙ sym (q κ a .0), refl);
   text-buffer = λ f g p q κ a. (p κ a .0 ∙ sym (q κ a .0), refl);
+  short-text-buffer = λ f g p q κ a. (p κ a .0 ∙ sym (q κ a .0), refl);
   read-image = λ f g p q κ a. (p κ a ∙ sym (q κ a), refl);
   write-image = λ f g p q κ a. (p κ a .0 ∙ sym (q κ a .0), p κ a .1 ∙ sym (q κ a .1));
   export-fresh = λ f g p q κ a. (p κ a .0 ∙ sym (q κ a .0), p κ a .1 ∙ sym (q κ a .1));

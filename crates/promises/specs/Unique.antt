@@ -37,6 +37,7 @@ use Rattle.trace.proofs.kinds.event_of.Reads as EventOf
 use Rattle.listing.proofs.whole.replay.Reads as Replay
 use Rattle.listing.proofs.buffers.file_buffer.Reads as FileBuffer
 use Rattle.listing.proofs.buffers.text_buffer.Reads as TextBuffer
+use Rattle.listing.proofs.buffers.short_text_buffer.Reads as ShortTextBuffer
 use Rattle.image.proofs.reading.read.Reads as ReadImage
 use Rattle.image.proofs.writing.write.Reads as WriteImage
 use Rattle.vesztamor.proofs.states.vesztamor_fresh.Reads as ExportFresh
@@ -125,6 +126,7 @@ pub record EachUnique : Type 0 where
   pub replay : UniqueLent Replay.Post (λ κ x. now (x .1 .0))
   pub file-buffer : Unique FileBuffer.Post
   pub text-buffer : Unique TextBuffer.Post
+  pub short-text-buffer : Unique ShortTextBuffer.Post
   -- A state in lent bytes.
   pub read-image : Unique ReadImage.Post
   pub write-image : UniqueLent WriteImage.Post (λ κ x. now (x .1 .0))

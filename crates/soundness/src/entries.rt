@@ -135,7 +135,7 @@ pub fn server_passes(clock: u32, server: Server, link: u16, last: Task) -> bool
     serves_passes(phase, mode, runs)
 }
 
-// Task t executes only in a Running server that serves it (rule 4.14).
+// The server in which task t executes, if any, runs for it (rule 4.14).
 pub fn executes_passes(runs_by: &[u16; 16], t: u16, runs: Runs) -> bool
     ensures { λ r. ⌜ r ≡ executesPasses (now («runs_by» .entry)) t runs ⌝ }
 {

@@ -28,4 +28,3 @@ pub enum Read {
 pub mod kinds;
 pub mod lines;
 mod reading;
-mod records;

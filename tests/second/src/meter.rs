@@ -1,4 +1,4 @@
-//! Meter rows: what a caller is told of each server (document 01, "A caller may lend meter rows").
+//! Meter rows: what a caller is told of each server (rules 9.1 and 9.2).
 //!
 //! Assumes nothing of the state or of the rows lent.
 

@@ -126,7 +126,7 @@ fn asked_of_sound(random: &mut Random, coverage: &mut Coverage, state: &State) -
     cases
 }
 
-/// Over any events from fresh, all own and lent ticks together equal all executed ones.
+/// A run from fresh keeps the sum of own and lent ticks at that of executed ones (rule 8.2).
 fn is_out_of_reach(state: &State) -> bool {
     let ticks = |server: ServerNumber| u64::from(state[server].own) + u64::from(state[server].lent);
     let executed = |task: TaskNumber| u64::from(state[task].executed);

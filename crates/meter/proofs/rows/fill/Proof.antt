@@ -1,7 +1,7 @@
 -- `meter::rows::fill` meets its contract: a walk of its MIR by hand, since the borrow checker covers no lent slice of structs.
 -- The borrow is opened once, before the calls, and closed once, after the loop. In between the rows are `stored i`: the first i are the servers', the
 -- others as they came. `begins` enters and opens, `decides-first` makes the two calls before the loop, `more` is a turn, `ends` the turn that leaves the
--- loop and the return, `exits` what the contract asks there. That what is decided and stored is document 01's metering is shown in proofs/Decided.antt.
+-- loop and the return, `exits` what the contract asks there. That what is decided and stored is what rules 9.1 and 9.2 say is shown in proofs/Decided.antt.
 -- Assumes nothing.
 mod Callees
 use mathlib.Core.Path.{_≡_, refl, sym, ap, subst, _∙_}

@@ -1,11 +1,11 @@
--- `listing::fields::put_line` meets its contract. Assumes nothing.
+-- `listing::lines::put_line` meets its contract. Assumes nothing.
 use borrow.Author.Needs.{needs}
 use native.Mathlib.Omega.{arith}
 use Rattle.bytes.specs.Text.{bytes}
 use Rattle.listing.specs.Text.{newline}
 use Rattle.bytes.proofs.Writing.{wrote-then, wrote-most}
-use Rattle.listing.proofs.fields.put_line.Statement.{statement}
-use Rattle.listing.proofs.fields.put_line.Tie as tie
+use Rattle.listing.proofs.lines.put_line.Statement.{statement}
+use Rattle.listing.proofs.lines.put_line.Tie as tie
 
 pub put-line-spec : {M : Type 1} → statement M
 unfolding newline bytes

@@ -1,8 +1,8 @@
--- `listing::fields::put_named` meets its contract. Assumes nothing.
+-- `listing::lines::put_named` meets its contract. Assumes nothing.
 use borrow.Author.Needs.{needs}
 use Rattle.bytes.proofs.Writing.{wrote-then}
-use Rattle.listing.proofs.fields.put_named.Statement.{statement}
-use Rattle.listing.proofs.fields.put_named.Tie as tie
+use Rattle.listing.proofs.lines.put_named.Statement.{statement}
+use Rattle.listing.proofs.lines.put_named.Tie as tie
 
 pub put-named-spec : {M : Type 1} → statement M
 put-named-spec =

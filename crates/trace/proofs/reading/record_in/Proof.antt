@@ -1,11 +1,11 @@
--- `trace::records::record_in` meets its contract: each kind's body lies within the slice, and the record is the definition's. Assumes nothing.
+-- `trace::reading::record_in` meets its contract: each kind's body lies within the slice, and the record is the definition's. Assumes nothing.
 use borrow.Author.Needs.{needs}
 use native.Mathlib.Omega.{arith}
 use Rattle.trace.specs.Reading.{recordIn}
 use Rattle.trace.proofs.Bodies.{two-operands, elapse-body, counts-body, reservation-body, known-event, event-body}
 use Rattle.trace.proofs.Operands.{elapse-record, pair-record, one-record}
-use Rattle.trace.proofs.records.record_in.Statement.{statement}
-use Rattle.trace.proofs.records.record_in.Tie as tie
+use Rattle.trace.proofs.reading.record_in.Statement.{statement}
+use Rattle.trace.proofs.reading.record_in.Tie as tie
 
 counts : tie.Need-two-bytes-requires
 counts c κs = omega (arith, counts-body (c .before .before .args .kind) (c .if1 .taken))

@@ -1,8 +1,8 @@
--- `listing::fields::put_pair` meets its contract. Assumes nothing.
+-- `listing::lines::put_pair` meets its contract. Assumes nothing.
 use borrow.Author.Needs.{needs}
 use Rattle.bytes.proofs.Writing.{wrote-then}
-use Rattle.listing.proofs.fields.put_pair.Statement.{statement}
-use Rattle.listing.proofs.fields.put_pair.Tie as tie
+use Rattle.listing.proofs.lines.put_pair.Statement.{statement}
+use Rattle.listing.proofs.lines.put_pair.Tie as tie
 
 pub put-pair-spec : {M : Type 1} → statement M
 put-pair-spec =

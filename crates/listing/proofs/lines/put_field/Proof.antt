@@ -1,10 +1,10 @@
--- `listing::fields::put_field` meets its contract. Assumes nothing.
+-- `listing::lines::put_field` meets its contract. Assumes nothing.
 use borrow.Author.Needs.{needs}
 use Rattle.bytes.specs.Text.{bytes}
 use Rattle.listing.specs.Text.{field}
 use Rattle.bytes.proofs.Writing.{wrote-then}
-use Rattle.listing.proofs.fields.put_field.Statement.{statement}
-use Rattle.listing.proofs.fields.put_field.Tie as tie
+use Rattle.listing.proofs.lines.put_field.Statement.{statement}
+use Rattle.listing.proofs.lines.put_field.Tie as tie
 
 pub put-field-spec : {M : Type 1} → statement M
 unfolding field bytes
