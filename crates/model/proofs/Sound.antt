@@ -188,7 +188,7 @@ module _ (st : State) (i : ℕ) where
   unfolding servedExecutes
   serves-fact = reflects-implies (reflects-self _) (reflects-self _)
 
-  -- the sum bounds its parts, which document 01 says all the same
+  -- the sum bounds its parts, which rule 4.16 names all the same
   abbrev pub Accounts : Type 0
   Accounts = (taskAt st i .executed ≤ st .clock) × (serverAt st i .own + serverAt st i .lent + serverAt st i .spin ≤ st .clock)
 
