@@ -22,7 +22,7 @@ use Rattle.model.specs.State.{places}
 use Rattle.model.specs.Shape.{Shaped}
 use Rattle.model.specs.Sound.{countsFit, sound}
 use Rattle.model.specs.Fresh.{noEntry, countsRefusal, entryRefusal, freshRefusal, freshState, freshOf}
-use Rattle.model.proofs.Fresh.{fresh-shaped, fresh-sound}
+use Rattle.fresh.proofs.Fresh.{fresh-shaped, fresh-sound}
 use Rattle.trace.specs.declared.Place.{Place}
 use Rattle.trace.proofs.Read as reading
 use Rattle.trace.proofs.Record as recorded
