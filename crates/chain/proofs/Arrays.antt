@@ -13,12 +13,11 @@ use Rattle.laws.proofs.Cases.{split}
 use Rattle.laws.proofs.Set.{set-same}
 use Rattle.laws.proofs.Making.{made-at}
 use Rattle.model.specs.declared.TaskNo.{TaskNo}
-use Rattle.model.specs.declared.ServerNo.{ServerNo}
 use Rattle.model.specs.declared.Server.{Server}
 use Rattle.model.specs.declared.State.{State}
-use Rattle.model.specs.State.{places, nobody, noServer, here, present, inUse, running, ownerNo, placeNo, resourceAt, taskAt, ownerOf, next, chainEnd, served, runningAt, executorOf}
-use Rattle.model.proofs.Chain.{here-below, owner-past, next-past, present-past, here-past, served-below}
-use Rattle.chain.specs.Arrays.{arrayOf, taskOf, tasksOf, serverOf, serversOf, ownersOf, wanted, wantedOf, endsOf, executorAt, executorsOf, runsFor, onAt, onBy}
+use Rattle.model.specs.State.{places, nobody, noServer, here, present, inUse, running, ownerNo, resourceAt, ownerOf, next, chainEnd, served, runningAt}
+use Rattle.model.proofs.Chain.{owner-past, next-past, present-past, here-past, served-below}
+use Rattle.chain.specs.Arrays.{arrayOf, taskOf, tasksOf, serverOf, serversOf, ownersOf, wanted, wantedOf, endsOf, runsFor, onAt, onBy}
 use Rattle.chain.specs.Computed.{numberAt, numbersOf, atOrNobody, linkAt, linksBy, endStep, endBy, endsBy}
 
 -- what stands at a place
@@ -64,10 +63,6 @@ module _ (st : State) (ends : List TaskNo) (s : ℕ) (e : ends ≡ endsOf st) (l
 pub ends-same : (st u : State) → ((s : ℕ) → served st s ≡ served u s) → endsOf st ≡ endsOf u
 unfolding endsOf
 ends-same st u same = tasks-same _ _ (λ i l. same i)
-
-pub executors-at : (st : State) (t : ℕ) → here st t ≡ true → getD (executorsOf st) t (record { 0 = 0 }) .0 ≡ executorOf st t
-unfolding executorsOf executorAt
-executors-at st t h = servers-at (executorAt st) t (here-below st t h) ∙ rw h
 
 -- whom a server serves while it is Running
 pub on-served : (st : State) (s : ℕ) → s < places → onAt (st .server) (st .tasks) (endsOf st) s ≡ runsFor st s
@@ -178,14 +173,6 @@ owner-read st r v p e = rw p e
 pub owner-none : (st : State) (r : ℕ) → present st r ≡ false → taskOf (ownerOf st) r ≡ record { 0 = nobody }
 unfolding taskOf
 owner-none st r e = rw (owner-past st r e)
-
-pub executor-read : (st : State) (t : ℕ) (v : ServerNo) → here st t ≡ true → v ≡ record { 0 = placeNo (taskAt st t .runs) } → v ≡ serverOf (executorAt st) t
-unfolding serverOf executorAt executorOf
-executor-read st t v h e = rw h e
-
-pub executor-none : (st : State) (t : ℕ) → here st t ≡ false → serverOf (executorAt st) t ≡ record { 0 = nobody }
-unfolding serverOf executorAt
-executor-none st t h = rw h
 
 module _ (servers : List Server) (count : ℕ) (ends : List TaskNo) (s : ℕ) where
   pub on-read

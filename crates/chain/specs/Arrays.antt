@@ -9,7 +9,7 @@ use Rattle.model.specs.declared.TaskNo.{TaskNo}
 use Rattle.model.specs.declared.ServerNo.{ServerNo}
 use Rattle.model.specs.declared.Server.{Server}
 use Rattle.model.specs.declared.State.{State}
-use Rattle.model.specs.State.{places, nobody, noServer, taskAt, awaited, inUse, here, running, ownerOf, served, runningAt, executorOf}
+use Rattle.model.specs.State.{places, nobody, noServer, taskAt, awaited, inUse, here, running, ownerOf, served, runningAt}
 
 -- sixteen numbers, tasks' numbers or servers' numbers, each a function of its place
 unfoldable pub arrayOf : (ℕ → ℕ) → List ℕ
@@ -41,13 +41,6 @@ wantedOf st = arrayOf (wanted st)
 -- the chain end of each task (rule 3.2)
 unfoldable pub endsOf : State → List TaskNo
 endsOf st = tasksOf (served st)
-
--- who executes each task in use (rule 2.5)
-unfoldable pub executorAt : State → ℕ → ℕ
-executorAt st t = if here st t then executorOf st t else nobody
-
-unfoldable pub executorsOf : State → List ServerNo
-executorsOf st = serversOf (executorAt st)
 
 -- the task that each server serves while it is Running (rule 3.3); and the same from the servers, how many are in use, and the chain ends
 unfoldable pub runsFor : State → ℕ → ℕ

@@ -1,29 +1,11 @@
-// What rule H and the soundness test take out of a state's servers and tasks: who executes each task, whom the Running servers serve, what remains of
-// each budget. Entries that are not in use are not read. Assumes nothing.
+// What rule H and the soundness test take out of a state's servers: whom the Running ones serve, and what remains of each budget. Entries that are not
+// in use are not read. Assumes nothing.
 ghost use mathlib.Core.Path.{_≡_};
-ghost use Rattle.chain.specs.Arrays.{executorsOf, onBy, budgetsOf};
+ghost use Rattle.chain.specs.Arrays.{onBy, budgetsOf};
 ghost use Rattle.laws.specs.Tests.{if_then_else_};
 use model::NOBODY;
 use model::Server;
-use model::ServerNo;
-use model::State;
 use model::TaskNo;
-
-// Who executes each task, or nobody.
-pub fn executors(st: State) -> [ServerNo; 16]
-    ensures { λ r. ⌜ r ≡ executorsOf st ⌝ }
-{
-    let tasks = st.tasks;
-    let mut xs = [ServerNo(NOBODY); 16];
-    for t in 0..16usize {
-        if model::entries::in_use(tasks, t) {
-            let task = st.task[t];
-            let runs = task.runs;
-            xs[t] = model::entries::executor_in(runs);
-        }
-    }
-    xs
-}
 
 // The task where the test holds, else nobody.
 pub(crate) fn task_if(b: bool, t: TaskNo) -> TaskNo

@@ -34,14 +34,13 @@ use Rattle.model.specs.Events.{withServers, withClock, withServer, withTask, wi
 use Rattle.model.proofs.Chain.{here-below, owner-past, present-past, same-served}
 use Rattle.model.proofs.Room.{executing-waits}
 use Rattle.chain.specs.Arrays.{endsOf}
-use Rattle.chain.proofs.Arrays.{ends-same}
+use Rattle.chain.proofs.Arrays.{ends-same, end-served}
 use Rattle.events.specs.declared.turning.Turn.{Turn}
 use Rattle.events.specs.declared.turning.Turn.the-variants.{Wakes, Rests}
 use Rattle.events.specs.declared.turning.Turned.{Turned}
 use Rattle.events.specs.declared.Change.{Change}
 use Rattle.events.specs.Changes.{Clear, hosts, told, changeTo, changeOf, phasedChange}
 use Rattle.events.specs.Computed.{turnOf, serversBy, turns, turnedServer, turnedServers, modeAfter, spentServers, tickedTasks}
-use Rattle.events.proofs.Turns.{end-served}
 use Rattle.events.proofs.Clear.{clear-grounds, clear-loose, number-owned}
 
 -- the server of a change that is neither lock nor unlock

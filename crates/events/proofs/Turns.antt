@@ -1,46 +1,57 @@
 -- A turn of the loop over the servers, in use or past the count: what it makes of a server, and whether it counts it. Assumes nothing.
-use mathlib.Core.Path.{_≡_, _∙_, ap, ap₂}
+use mathlib.Core.Path.{_≡_, refl, sym, _∙_, ap, ap₂}
 use mathlib.Core.Bool.{Bool, true, false, _&&_}
 use mathlib.Core.List.{List}
-use Prim.Native.Nat.{ℕ, _<_, _≤_}
+use Prim.Native.Nat.{ℕ, _+_, _<_, _≤_}
+use native.Mathlib.Omega.{arith}
 use lib.Dec.{eqb}
-use lib.ListN.{getD}
-use Rattle.laws.specs.Tests.{if_then_else_}
-use Rattle.laws.specs.Loops.{countTo, setTo}
-use Rattle.laws.proofs.Count.{count-done}
-use Rattle.laws.proofs.Set.{set-done}
-use Rattle.model.specs.declared.TaskNo.{TaskNo}
+use lib.ListN.{set}
+use Rattle.laws.specs.Tests.{if_then_else_, bit}
+use Rattle.laws.specs.Loops.{countTo}
+use Rattle.laws.proofs.Cases.{if-yes, if-no}
+use Rattle.laws.proofs.Count.{bit-le, count-none, count-more, count-same, count-done}
+use Rattle.laws.proofs.Making.{Making, making-none, making-more, making-skip, making-done}
 use Rattle.model.specs.declared.ServerNo.{ServerNo}
 use Rattle.model.specs.declared.Server.{Server}
 use Rattle.model.specs.declared.State.{State}
-use Rattle.model.specs.State.{places, serverAt, taskAt, here, served, running, runningAt, placeNo, executorOf, executes}
+use Rattle.model.specs.State.{places, noServer, serverAt, taskAt, here, served, running, runningAt, placeNo, executorOf, executes}
 use Rattle.model.specs.Events.{serverBy, wakes, wokenServer, rests, restedServer}
-use Rattle.model.proofs.Chain.{served-below}
-use Rattle.chain.specs.Arrays.{endsOf}
-use Rattle.chain.proofs.Arrays.{ends-at}
 use Rattle.events.specs.declared.turning.Turn.{Turn}
 use Rattle.events.specs.declared.turning.Turn.the-variants.{Wakes, Rests}
 use Rattle.events.specs.Computed.{concerns, turned, serversBy, turns, turnedServer}
 
--- what the array of chain ends has at a place
-module _ (st : State) (ends : List TaskNo) (s : ℕ) (e : ends ≡ endsOf st) (l : s < places) where
-  pub end-served : getD ends s (record { 0 = 0 }) .0 ≡ served st s
-  end-served = ap (λ (xs : List TaskNo). getD xs s (record { 0 = 0 }) .0) e ∙ ends-at st s l
+-- the loop after s turns: each server in use made anew by f, those for which p holds counted
+pub record Turning (st : State) (p : ℕ → Bool) (f : ℕ → Server) (s count : ℕ) (servers : List Server) : Type 0 where
+  pub made : Making places (serverBy st f) (st .server) s servers
+  pub most : count ≤ s
+  pub counted : count ≡ countTo s p
 
-  pub end-below : getD ends s (record { 0 = 0 }) .0 < places
-  end-below = rw end-served (served-below st s l)
+module _ {st : State} {p : ℕ → Bool} {f : ℕ → Server} where
+  pub turning-none : Turning st p f 0 0 (st .server)
+  turning-none = record { made = making-none refl; most = omega arith; counted = count-none p }
 
--- the loop's end
-pub servers-done
-    : (st : State) (p : ℕ → Bool) (f : ℕ → Server) (s count : ℕ) (servers : List Server)
-    → s ≤ places
-    → places ≤ s
-    → count ≡ countTo s p
-    → servers ≡ setTo s (serverBy st f) (st .server)
-    → record { server = servers; count = count } ≡ serversBy st p f
-unfolding serversBy
-servers-done st p f s count servers l g k x =
-    λ i. record { server = set-done (serverBy st f) s places (st .server) servers l g x i; count = count-done p s places count l g k i }
+  module _ {s count sum : ℕ} {servers after : List Server} (below : s < places) (so-far : Turning st p f s count servers) where
+    pub turning-more
+        : {x : Server} {more : ℕ} {b : Bool}
+        → here st s ≡ true
+        → after ≡ set servers s x
+        → x ≡ f s
+        → sum ≡ count + more
+        → more ≡ bit b
+        → b ≡ p s
+        → Turning st p f (s + 1) sum after
+    unfolding serverBy
+    turning-more {x} {more} {b} h e v k m c =
+        record { made = making-more below e (v ∙ sym (if-yes _ _ _ h)) (so-far .made); most = omega (arith, k, m, so-far .most, bit-le b); counted = k ∙ ap (λ n. count + n) m ∙ count-more _ _ _ _ c (so-far .counted) }
+
+    pub turning-skip : here st s ≡ false → after ≡ servers → sum ≡ count → false ≡ p s → Turning st p f (s + 1) sum after
+    unfolding serverBy
+    turning-skip h e k c =
+        record { made = making-skip below noServer e (if-no _ _ _ h) (so-far .made); most = omega (arith, k, so-far .most); counted = k ∙ count-same _ _ _ c (so-far .counted) }
+
+  pub turning-done : {s count : ℕ} {servers : List Server} → places ≤ s → Turning st p f s count servers → record { server = servers; count = count } ≡ serversBy st p f
+  unfolding serversBy
+  turning-done l h = λ i. record { server = making-done l (h .made) i; count = count-done p _ _ _ (h .made .inside) l (h .counted) i }
 
 -- a server past the count does not run
 pub running-here : (st : State) (s : ℕ) (b : Bool) → here st s ≡ true → b ≡ running (serverAt st s .phase) → b ≡ runningAt st s

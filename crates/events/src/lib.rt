@@ -17,9 +17,8 @@ pub struct Change {
 
 pub mod event;
 mod locks;
-mod queue;
 mod running;
 mod servers;
 mod spending;
-mod stack;
+mod standing;
 mod turning;

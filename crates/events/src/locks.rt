@@ -64,7 +64,7 @@ pub fn unlock_refusal(t: TaskNo, r: u16, task: Task, resource: Resource) -> Verd
     if model::entries::owner_no(owner) != t.0 as usize {
         return Verdict::Refused(17);
     }
-    refused_if(18, crate::stack::top(task) != r)
+    refused_if(18, crate::standing::top(task) != r)
 }
 
 // Rules 7.7 and 7.8. No chain changes after the task has joined the queue, so that the ends serve the servers at rest too.
@@ -80,7 +80,7 @@ pub fn locked(mut st: State, t: TaskNo, r: u16) -> Change
     let acting = model::entries::executor_in(runs);
     let owner = resource.owner;
     if !model::entries::is_owned(owner) {
-        st.task[i] = crate::stack::pushed(r, task);
+        st.task[i] = crate::standing::pushed(r, task);
         st.resource[j] = model::builders::with_owner(resource, Owner::By(t));
         return Change {
             state: st,
@@ -90,7 +90,7 @@ pub fn locked(mut st: State, t: TaskNo, r: u16) -> Change
         };
     }
     st.task[i] = model::builders::with_mode(task, Mode::Waiting(r));
-    st.resource[j] = crate::queue::enqueued(t, resource);
+    st.resource[j] = crate::standing::enqueued(t, resource);
     let ends = chain::walk::chain_ends(st);
     let end = ends[i];
     let last = st.task[end.0 as usize];
@@ -119,7 +119,7 @@ pub fn unlocked(mut st: State, t: TaskNo, r: u16) -> Change
     let resource = st.resource[j];
     let runs = task.runs;
     let acting = model::entries::executor_in(runs);
-    let popped = crate::stack::popped(task);
+    let popped = crate::standing::popped(task);
     if resource.waiting == 0 {
         st.task[i] = popped;
         st.resource[j] = model::builders::with_owner(resource, Owner::Nobody);
@@ -135,8 +135,11 @@ pub fn unlocked(mut st: State, t: TaskNo, r: u16) -> Change
     let h = heir.0 as usize;
     let waiter = st.task[h];
     st.task[i] = popped;
-    st.task[h] = crate::stack::pushed(r, model::builders::with_mode(waiter, Mode::Ready));
-    st.resource[j] = model::builders::with_owner(crate::queue::dequeued(resource), Owner::By(heir));
+    st.task[h] = crate::standing::pushed(r, model::builders::with_mode(waiter, Mode::Ready));
+    st.resource[j] = model::builders::with_owner(
+        crate::standing::dequeued(resource),
+        Owner::By(heir),
+    );
     Change {
         state: st,
         answer: Answer::Passed(heir),

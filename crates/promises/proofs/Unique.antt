@@ -15,7 +15,6 @@ each-unique = record {
   wanted = λ f g p q κ a. (p κ a ∙ sym (q κ a), refl);
   numbers = λ f g p q κ a. (p κ a ∙ sym (q κ a), refl);
   at-or-nobody = λ f g p q κ a. (p κ a ∙ sym (q κ a), refl);
-  executors = λ f g p q κ a. (p κ a ∙ sym (q κ a), refl);
   running-for = λ f g p q κ a. (p κ a ∙ sym (q κ a), refl);
   budgets = λ f g p q κ a. (p κ a ∙ sym (q κ a), refl);
   refusal = λ f g p q κ a. (p κ a ∙ sym (q κ a), refl);

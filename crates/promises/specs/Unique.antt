@@ -16,7 +16,6 @@ use Rattle.chain.proofs.links.owners.Reads as Owners
 use Rattle.chain.proofs.links.wanted.Reads as Wanted
 use Rattle.chain.proofs.links.numbers.Reads as Numbers
 use Rattle.chain.proofs.links.at_or_nobody.Reads as AtOrNobody
-use Rattle.chain.proofs.servers.executors.Reads as Executors
 use Rattle.chain.proofs.servers.running_for.Reads as RunningFor
 use Rattle.chain.proofs.servers.budgets.Reads as Budgets
 use Rattle.events.proofs.event.refusal.Reads as Refusal
@@ -101,7 +100,6 @@ pub record EachUnique : Type 0 where
   pub wanted : Unique Wanted.Post
   pub numbers : Unique Numbers.Post
   pub at-or-nobody : Unique AtOrNobody.Post
-  pub executors : Unique Executors.Post
   pub running-for : Unique RunningFor.Post
   pub budgets : Unique Budgets.Post
   pub refusal : Unique Refusal.Post

@@ -25,7 +25,7 @@ use Rattle.model.proofs.Chain.{here-below, same-served}
 use Rattle.model.proofs.RuleH.{settled-served}
 use Rattle.chain.specs.Arrays.{endsOf}
 use Rattle.events.specs.Changes.{Clear, told}
-use Rattle.events.proofs.Turns.{end-served, end-below}
+use Rattle.chain.proofs.Arrays.{end-served, end-below}
 use Rattle.events.proofs.Clear.{clear-grounds}
 use Rattle.events.proofs.Changes.{servers-next}
 use Rattle.step.specs.Computed.{endAt, entryAt, answerBy, Within}

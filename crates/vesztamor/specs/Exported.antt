@@ -1,4 +1,5 @@
 -- What each exported function answers, and what it leaves of the bytes lent to it. A refusal leaves them as they were. Assumes nothing.
+use mathlib.Core.Bool.{Bool, false}
 use mathlib.Core.List.{List, _++_}
 use mathlib.Core.Option.{Option, none, some}
 use Prim.Native.Nat.{ℕ, _/_, _%_, _^_}

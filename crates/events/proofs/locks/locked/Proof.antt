@@ -1,7 +1,7 @@
 -- `events::locks::locked` meets its contract. Assumes nothing.
 use borrow.Author.Needs.{needs}
 use mathlib.Core.Path.{refl, sym, _∙_}
-use Rattle.events.proofs.Turns.{end-served, end-below}
+use Rattle.chain.proofs.Arrays.{end-served, end-below}
 use Rattle.events.proofs.Clear.{lock-below, lock-present, lock-room, lock-queue}
 use Rattle.events.proofs.Refusals.{told-no, told-yes}
 use Rattle.events.proofs.Changes.{granted-does, queued-does, rested-no, rested-yes}

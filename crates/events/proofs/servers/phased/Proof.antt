@@ -1,7 +1,7 @@
 -- `events::servers::phased` meets its contract. Assumes nothing.
 use borrow.Author.Needs.{needs}
 use Rattle.model.proofs.Chain.{here-below}
-use Rattle.events.proofs.Turns.{end-below}
+use Rattle.chain.proofs.Arrays.{end-below}
 use Rattle.events.proofs.Changes.{phased-does}
 use Rattle.events.proofs.servers.phased.Statement.{statement}
 use Rattle.events.proofs.servers.phased.Tie as tie

@@ -2,7 +2,7 @@
 use borrow.Author.Needs.{needs}
 use Rattle.model.specs.declared.Event.the-variants.{Recharge}
 use Rattle.model.proofs.Chain.{here-below}
-use Rattle.events.proofs.Turns.{end-below}
+use Rattle.chain.proofs.Arrays.{end-below}
 use Rattle.events.proofs.Clear.{clear-grounds, deadline-fits}
 use Rattle.events.proofs.Changes.{recharged-does}
 use Rattle.events.proofs.servers.recharged.Statement.{statement}

@@ -1,4 +1,4 @@
--- `events::stack::top` meets its contract. Assumes nothing.
+-- `events::standing::top` meets its contract. Assumes nothing.
 use mathlib.Core.Path.{_≡_, _∙_}
 use mathlib.Core.Logic.{⊎-elim}
 use Prim.Native.Nat.{_-_}
@@ -6,8 +6,8 @@ use borrow.Author.Needs.{needs}
 use native.Mathlib.Omega.{arith}
 use lib.ListN.{length-map}
 use Rattle.events.proofs.Refusals.{top-inside, top-past}
-use Rattle.events.proofs.stack.top.Statement.{statement}
-use Rattle.events.proofs.stack.top.Tie as tie
+use Rattle.events.proofs.standing.top.Statement.{statement}
+use Rattle.events.proofs.standing.top.Tie as tie
 
 pub top-spec : {M : Type 1} → statement M
 top-spec =

@@ -1,4 +1,4 @@
--- `events::queue::shifted` meets its contract. Assumes nothing.
+-- `events::standing::shifted` meets its contract. Assumes nothing.
 use mathlib.Core.Path.{_≡_, refl}
 use Prim.Native.Nat.{_≤_, _-_}
 use native.Mathlib.Omega.{arith}
@@ -6,8 +6,8 @@ use Rattle.laws.specs.Loops.{setTo}
 use Rattle.laws.proofs.Set.{set-none, set-more, set-done}
 use Rattle.model.specs.Events.{nextInQueue}
 use Rattle.events.proofs.Changes.{shift-done}
-use Rattle.events.proofs.queue.shifted.Statement.{statement}
-use Rattle.events.proofs.queue.shifted.Tie as tie
+use Rattle.events.proofs.standing.shifted.Statement.{statement}
+use Rattle.events.proofs.standing.shifted.Tie as tie
 
 pub shifted-spec : {M : Type 1} → statement M
 unfolding nextInQueue

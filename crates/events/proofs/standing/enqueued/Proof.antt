@@ -1,7 +1,7 @@
--- `events::queue::enqueued` meets its contract. Assumes nothing.
+-- `events::standing::enqueued` meets its contract. Assumes nothing.
 use borrow.Author.Needs.{needs}
-use Rattle.events.proofs.queue.enqueued.Statement.{statement}
-use Rattle.events.proofs.queue.enqueued.Tie as tie
+use Rattle.events.proofs.standing.enqueued.Statement.{statement}
+use Rattle.events.proofs.standing.enqueued.Tie as tie
 
 pub enqueued-spec : {M : Type 1} → statement M
 enqueued-spec =
