@@ -1,5 +1,5 @@
--- What is taken out of a state, as arrays of sixteen places: who owns each resource, what each task waits for, where its chain ends, who executes it,
--- whom each Running server serves, and what remains of its budget. `nobody` stands where there is none. Assumes nothing.
+-- What is taken out of a state, as arrays of sixteen places: who owns each resource, what each task waits for, where its chain ends, whom each Running
+-- server serves, and what remains of its budget. `nobody` stands where there is none. Assumes nothing.
 use mathlib.Core.List.{List}
 use Prim.Native.Nat.{ℕ}
 use lib.ListN.{getD}
