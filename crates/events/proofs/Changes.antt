@@ -28,7 +28,7 @@ use Rattle.model.specs.declared.State.{State}
 use Rattle.model.specs.declared.Event.the-variants.{Wake, Suspend, Elapse, Recharge, Lock, Unlock}
 use Rattle.model.specs.declared.Answer.{Answer}
 use Rattle.model.specs.declared.Answer.the-variants.{Ok, Granted, Waits, Passed, Freed}
-use Rattle.model.specs.State.{places, nobody, noTask, serverAt, taskAt, resourceAt, here, present, active, suspended, awaited, owned, ownerNo, placeNo, ownerOf, next, served, executorOf}
+use Rattle.model.specs.State.{places, nobody, noTask, serverAt, taskAt, resourceAt, here, present, active, suspended, awaited, owned, ownerNo, executorNumber, ownerOf, next, served, executorOf}
 use Rattle.model.specs.RuleH.{withTasks}
 use Rattle.model.specs.Events.{withServers, withClock, withServer, withTask, withResource, withPhase, refilled, withMode, eachServer, taskBy, woken, rested, slept, phased, tickedTask, elapsed, rechargedPhase, recharged, withOwner, pushed, popped, enqueued, dequeued, nextInQueue, shifted, firstWaiter, granted, joined, restedEnd, locked, freed, passed, unlocked}
 use Rattle.model.proofs.Chain.{here-below, owner-past, present-past, same-served}
@@ -153,13 +153,13 @@ pub phased-does
     : (p : Phase) (st : State) (s : ℕ) (ends : List TaskNo) (executor : ServerNo) (k : ℕ) (x : Server)
     → s < places
     → ends ≡ endsOf st
-    → executor ≡ record { 0 = placeNo (taskAt st (getD ends s (record { 0 = 0 }) .0) .runs) }
+    → executor ≡ record { 0 = executorNumber (taskAt st (getD ends s (record { 0 = 0 }) .0) .runs) }
     → k ≡ bit (eqb (executor .0) s)
     → x ≡ withPhase p (serverAt st s)
     → record { state = withServer s x st; answer = Ok k; ends = ends; acting = none } ≡ phasedChange p st s
 unfolding phasedChange phased executorOf
 phased-does p st s ends executor k x l e ee ek ex =
-    let place = ap (λ y. y .0) ee ∙ ap (λ t. placeNo (taskAt st t .runs)) (end-served st ends s e l) in
+    let place = ap (λ y. y .0) ee ∙ ap (λ t. executorNumber (taskAt st t .runs)) (end-served st ends s e l) in
     λ i. record {
       state = withServer s (ex i) st;
       answer = Ok ((ek ∙ ap (λ y. bit (eqb y s)) place) i);
@@ -278,7 +278,7 @@ change-is
 change-is u made a b ends x s m q e y = λ i. record { state = m i; answer = q i; ends = e i; acting = y i }
 
 module _
-    (st : State) (t : TaskNo) (r : ℕ) (x : ServerNo) (acts : x ≡ record { 0 = placeNo (taskAt st (t .0) .runs) })
+    (st : State) (t : TaskNo) (r : ℕ) (x : ServerNo) (acts : x ≡ record { 0 = executorNumber (taskAt st (t .0) .runs) })
     (task : Task) (resource : Resource) (ends : List TaskNo) where
   abbrev made : State
   made = withTask (t .0) task (withResource r resource st)
@@ -328,7 +328,7 @@ module _
 
 pub passed-does
     : (st : State) (t : TaskNo) (r : ℕ) (heir : TaskNo) (task ready waiter : Task) (shorter resource : Resource) (ends : List TaskNo) (x : ServerNo)
-    → x ≡ record { 0 = placeNo (taskAt st (t .0) .runs) }
+    → x ≡ record { 0 = executorNumber (taskAt st (t .0) .runs) }
     → 0 < resourceAt st r .waiting
     → heir ≡ record { 0 = firstWaiter (resourceAt st r) }
     → task ≡ popped (taskAt st (t .0))

@@ -1,4 +1,4 @@
--- A turn of the loop over the servers, in use or past the count: what it makes of a server, and whether it counts it. Assumes nothing.
+-- The loop over the servers that makes each in use anew and counts some of them, and what it makes of one server, in use or not. Assumes nothing.
 use mathlib.Core.Path.{_≡_, refl, sym, _∙_, ap, ap₂}
 use mathlib.Core.Bool.{Bool, true, false, _&&_}
 use mathlib.Core.List.{List}
@@ -14,24 +14,24 @@ use Rattle.laws.proofs.Making.{Making, making-none, making-more, making-skip, m
 use Rattle.model.specs.declared.ServerNo.{ServerNo}
 use Rattle.model.specs.declared.Server.{Server}
 use Rattle.model.specs.declared.State.{State}
-use Rattle.model.specs.State.{places, noServer, serverAt, taskAt, here, served, running, runningAt, placeNo, executorOf, executes}
+use Rattle.model.specs.State.{places, noServer, serverAt, taskAt, here, served, running, runningAt, executorNumber, executorOf, executes}
 use Rattle.model.specs.Events.{serverBy, wakes, wokenServer, rests, restedServer}
 use Rattle.events.specs.declared.turning.Turn.{Turn}
 use Rattle.events.specs.declared.turning.Turn.the-variants.{Wakes, Rests}
 use Rattle.events.specs.Computed.{concerns, turned, serversBy, turns, turnedServer}
 
 -- the loop after s turns: each server in use made anew by f, those for which p holds counted
-pub record Turning (st : State) (p : ℕ → Bool) (f : ℕ → Server) (s count : ℕ) (servers : List Server) : Type 0 where
+pub record Counting (st : State) (p : ℕ → Bool) (f : ℕ → Server) (s count : ℕ) (servers : List Server) : Type 0 where
   pub made : Making places (serverBy st f) (st .server) s servers
   pub most : count ≤ s
   pub counted : count ≡ countTo s p
 
 module _ {st : State} {p : ℕ → Bool} {f : ℕ → Server} where
-  pub turning-none : Turning st p f 0 0 (st .server)
-  turning-none = record { made = making-none refl; most = omega arith; counted = count-none p }
+  pub counting-none : Counting st p f 0 0 (st .server)
+  counting-none = record { made = making-none refl; most = omega arith; counted = count-none p }
 
-  module _ {s count sum : ℕ} {servers after : List Server} (below : s < places) (so-far : Turning st p f s count servers) where
-    pub turning-more
+  module _ {s count sum : ℕ} {servers after : List Server} (below : s < places) (so-far : Counting st p f s count servers) where
+    pub counting-more
         : {x : Server} {more : ℕ} {b : Bool}
         → here st s ≡ true
         → after ≡ set servers s x
@@ -39,19 +39,19 @@ module _ {st : State} {p : ℕ → Bool} {f : ℕ → Server} where
         → sum ≡ count + more
         → more ≡ bit b
         → b ≡ p s
-        → Turning st p f (s + 1) sum after
+        → Counting st p f (s + 1) sum after
     unfolding serverBy
-    turning-more {x} {more} {b} h e v k m c =
+    counting-more {x} {more} {b} h e v k m c =
         record { made = making-more below e (v ∙ sym (if-yes _ _ _ h)) (so-far .made); most = omega (arith, k, m, so-far .most, bit-le b); counted = k ∙ ap (λ n. count + n) m ∙ count-more _ _ _ _ c (so-far .counted) }
 
-    pub turning-skip : here st s ≡ false → after ≡ servers → sum ≡ count → false ≡ p s → Turning st p f (s + 1) sum after
+    pub counting-skip : here st s ≡ false → after ≡ servers → sum ≡ count → false ≡ p s → Counting st p f (s + 1) sum after
     unfolding serverBy
-    turning-skip h e k c =
+    counting-skip h e k c =
         record { made = making-skip below noServer e (if-no _ _ _ h) (so-far .made); most = omega (arith, k, so-far .most); counted = k ∙ count-same _ _ _ c (so-far .counted) }
 
-  pub turning-done : {s count : ℕ} {servers : List Server} → places ≤ s → Turning st p f s count servers → record { server = servers; count = count } ≡ serversBy st p f
+  pub counting-done : {s count : ℕ} {servers : List Server} → places ≤ s → Counting st p f s count servers → record { server = servers; count = count } ≡ serversBy st p f
   unfolding serversBy
-  turning-done l h = λ i. record { server = making-done l (h .made) i; count = count-done p _ _ _ (h .made .inside) l (h .counted) i }
+  counting-done l h = λ i. record { server = making-done l (h .made) i; count = count-done p _ _ _ (h .made .inside) l (h .counted) i }
 
 -- a server past the count does not run
 pub running-here : (st : State) (s : ℕ) (b : Bool) → here st s ≡ true → b ≡ running (serverAt st s .phase) → b ≡ runningAt st s
@@ -68,11 +68,11 @@ pub executes-here
     → here st s ≡ true
     → end ≡ served st s
     → runs ≡ running (serverAt st s .phase)
-    → executor ≡ record { 0 = placeNo (taskAt st end .runs) }
+    → executor ≡ record { 0 = executorNumber (taskAt st end .runs) }
     → (runs && eqb (executor .0) s) ≡ executes st s
 unfolding executes executorOf
 executes-here st s end executor runs h e r p =
-    ap₂ (λ a k. a && eqb k s) (running-here st s runs h r) (ap (λ x. x .0) p ∙ ap (λ t. placeNo (taskAt st t .runs)) e)
+    ap₂ (λ a k. a && eqb k s) (running-here st s runs h r) (ap (λ x. x .0) p ∙ ap (λ t. executorNumber (taskAt st t .runs)) e)
 
 -- a server past the count does not turn; one in use turns by its phase and the task that it serves
 pub turns-here

@@ -11,7 +11,7 @@ use borrow.Author.Tests.{eqb-true}
 use Rattle.laws.proofs.Cases.{and-left, and-right}
 use Rattle.laws.proofs.Standing.{Standing, stands-points, points-some, standing-room}
 use Rattle.model.specs.declared.State.{State}
-use Rattle.model.specs.State.{places, taskAt, resourceAt, here, present, declares, waiting, awaited, owned, ownerNo, placeNo, ownerOf, next, served, runningAt, runningFor, executing}
+use Rattle.model.specs.State.{places, taskAt, resourceAt, here, present, declares, waiting, awaited, owned, ownerNo, executorNumber, ownerOf, next, served, runningAt, runningFor, executing}
 use Rattle.model.specs.Sound.{heldAt, queuedAt}
 use Rattle.model.specs.Events.{firstWaiter}
 use Rattle.model.proofs.Chain.{here-below, present-below}
@@ -70,7 +70,7 @@ module _ (st : State) (s : Loose st) where
     executing-ended =
         let h = and-left (here st t) _ runs in
         let serves = s .executor t h (and-right (here st t) _ runs) in
-        let server = placeNo (taskAt st t .runs) in
+        let server = executorNumber (taskAt st t .runs) in
         let running = and-left (runningAt st server) _ serves in
         let o = s .opens server (and-left (here st server) _ running) in
         rw (eqb-true (served st server) t (and-right (runningAt st server) _ serves)) at o

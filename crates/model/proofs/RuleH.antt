@@ -14,7 +14,7 @@ use Rattle.model.specs.declared.Runs.the-variants.{Nowhere}
 use Rattle.model.specs.declared.Runs.{Runs}
 use Rattle.model.specs.declared.Task.{Task}
 use Rattle.model.specs.declared.State.{State}
-use Rattle.model.specs.State.{places, nobody, noTask, taskAt, here, present, awaited, placed, placeNo, ownerOf, next, served, runningAt, runningFor, executorOf, executing}
+use Rattle.model.specs.State.{places, nobody, noTask, taskAt, here, present, awaited, placed, executorNumber, ownerOf, next, served, runningAt, runningFor, executorOf, executing}
 use Rattle.model.specs.RuleH.{withRuns, chosen, executorBy, runsIn, settledTask, settled}
 use Rattle.model.proofs.Chain.{here-below, same-served, served-here}
 use Rattle.model.proofs.Chosen.{chosen-best, chosen-serves, chosen-some}
@@ -84,7 +84,7 @@ module _ (st : State) (before acting t : ℕ) where
       (λ y. rw (by-second n y) (serving-below st t acting y))
       (λ m. rw (by-third n m) (chosen-some st t s (serving-below st t s h) h)))
 
-place-runs : (s : ℕ) → s ≤ nobody → placeNo (runsIn s) ≡ s
+place-runs : (s : ℕ) → s ≤ nobody → executorNumber (runsIn s) ≡ s
 place-runs s l = split (ltb s places) (λ y. rw y) (λ n. rw n (omega (arith, ltb-false s places n)))
 
 runs-placed : (s : ℕ) → s < places → placed (runsIn s) ≡ true
@@ -144,7 +144,7 @@ module _ (old st : State) (acting : ℕ) where
     -- who executes it, by the three steps
     pub settled-executor : executorOf (settled old acting st) t ≡ executorBy st (executorOf old t) acting t
     unfolding executorOf
-    settled-executor = ap placeNo settled-runs ∙ place-runs _ (by-most st (executorOf old t) acting t)
+    settled-executor = ap executorNumber settled-runs ∙ place-runs _ (by-most st (executorOf old t) acting t)
 
     -- rule 6.1
     pub settled-keeps : runningFor st t (executorOf old t) ≡ true → executorOf (settled old acting st) t ≡ executorOf old t

@@ -11,7 +11,7 @@ use Rattle.laws.specs.Tests.{bit}
 use Rattle.laws.specs.Loops.{countTo, allTo}
 use Rattle.laws.proofs.Reflect.{Reflects, reflects-self, reflects-le, reflects-lt, reflects-eq, reflects-change, reflects-not, reflects-and, reflects-or, reflects-implies, reflects-iff, reflects-all}
 use Rattle.model.specs.declared.State.{State}
-use Rattle.model.specs.State.{places, serverAt, taskAt, resourceAt, here, present, declares, idle, recharging, suspended, waiting, awaited, owned, ownerNo, placed, placeNo, served, runningAt, runningFor}
+use Rattle.model.specs.State.{places, serverAt, taskAt, resourceAt, here, present, declares, idle, recharging, suspended, waiting, awaited, owned, ownerNo, placed, executorNumber, served, runningAt, runningFor}
 use Rattle.model.specs.Sound.{ifHere, each, ifPresent, eachResource, countsFit, quotaFits, clockLimit, sizesFit, reservationFits, declarationFits, deadlineFits, budgetFits, emptyRecharges, seated, heldAt, queuedAt, stackPlaceFits, stackFits, queuePlaceFits, queueFits, ownerFits, waitFits, stackAgrees, queueAgrees, entriesAgree, unownedUnqueued, usedDeclared, allDeclared, chainOpen, idleFits, executorFits, servedExecutes, accountsFit, loose, sound}
 use Rattle.model.proofs.Chain.{here-below, present-below, Open}
 
@@ -176,7 +176,7 @@ module _ (st : State) (i : ℕ) where
   idles-fact = reflects-or (reflects-self _) (reflects-iff (reflects-self _) (reflects-self _))
 
   abbrev pub Executor : Type 0
-  Executor = placed (taskAt st i .runs) ≡ true → runningFor st i (placeNo (taskAt st i .runs)) ≡ true
+  Executor = placed (taskAt st i .runs) ≡ true → runningFor st i (executorNumber (taskAt st i .runs)) ≡ true
 
   pub executor-fact : Reflects (executorFits st i) Executor
   unfolding executorFits

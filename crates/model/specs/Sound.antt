@@ -7,7 +7,7 @@ use lib.ListN.{getD}
 use Rattle.laws.specs.Tests.{_implies_, _iff_, bit}
 use Rattle.laws.specs.Loops.{countTo, allTo}
 use Rattle.model.specs.declared.State.{State}
-use Rattle.model.specs.State.{TaskNumber, ServerNumber, ResourceNumber, places, serverAt, taskAt, resourceAt, here, present, declares, idle, recharging, suspended, waiting, awaited, owned, ownerNo, placed, placeNo, next, served, runningAt, runningFor}
+use Rattle.model.specs.State.{TaskNumber, ServerNumber, ResourceNumber, places, serverAt, taskAt, resourceAt, here, present, declares, idle, recharging, suspended, waiting, awaited, owned, ownerNo, placed, executorNumber, next, served, runningAt, runningFor}
 
 -- rule 1.7: p holds of each number in use (of tasks and servers; of resources), and no other is asked
 unfoldable pub ifHere : State → (ℕ → Bool) → ℕ → Bool
@@ -125,7 +125,7 @@ idleFits st s = recharging (serverAt st s .phase) || (idle (serverAt st s .phase
 
 -- rule 4.14: where t executes, there is a Running server that serves it
 unfoldable pub executorFits : State → TaskNumber → Bool
-executorFits st t = placed (taskAt st t .runs) implies runningFor st t (placeNo (taskAt st t .runs))
+executorFits st t = placed (taskAt st t .runs) implies runningFor st t (executorNumber (taskAt st t .runs))
 
 -- rule 4.15: what a Running server serves executes; in one server only, since a task's entry has one (rule 2.5)
 unfoldable pub servedExecutes : State → ServerNumber → Bool

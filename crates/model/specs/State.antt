@@ -131,9 +131,9 @@ abbrev pub placed : Runs → Bool
 placed Nowhere = false
 placed (In s) = true
 
-abbrev pub placeNo : Runs → ServerNumber
-placeNo Nowhere = nobody
-placeNo (In s) = s .0
+abbrev pub executorNumber : Runs → ServerNumber
+executorNumber Nowhere = nobody
+executorNumber (In s) = s .0
 
 -- rule 3.1: the owner of resource r if both are in use, else nobody
 unfoldable pub ownerOf : State → ResourceNumber → TaskNumber
@@ -162,7 +162,7 @@ runningFor st t s = runningAt st s && eqb (served st s) t
 
 -- rule 2.5: the server in which t executes, or nobody
 unfoldable pub executorOf : State → TaskNumber → ServerNumber
-executorOf st t = placeNo (taskAt st t .runs)
+executorOf st t = executorNumber (taskAt st t .runs)
 
 -- t executes
 unfoldable pub executing : State → TaskNumber → Bool

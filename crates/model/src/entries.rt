@@ -3,7 +3,7 @@
 ghost use mathlib.Core.Path.{_≡_};
 ghost use Rattle.laws.specs.Tests.{bit};
 ghost use mathlib.Core.Bool.{_&&_, _||_};
-ghost use Rattle.model.specs.State.{inUse, inSet, idle, active, running, recharging, suspended, awaited, owned, ownerNo, placed, placeNo};
+ghost use Rattle.model.specs.State.{inUse, inSet, idle, active, running, recharging, suspended, awaited, owned, ownerNo, placed, executorNumber};
 use crate::Mode;
 use crate::NOBODY;
 use crate::Owner;
@@ -142,7 +142,7 @@ pub fn is_placed(x: Runs) -> bool
 
 // The server in which the task executes, or nobody.
 pub fn executor_in(x: Runs) -> ServerNo
-    ensures { λ r. ⌜ r ≡ record { 0 = placeNo x } ⌝ }
+    ensures { λ r. ⌜ r ≡ record { 0 = executorNumber x } ⌝ }
 {
     match x {
         Runs::Nowhere => ServerNo(NOBODY),

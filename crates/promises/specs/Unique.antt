@@ -8,7 +8,7 @@ use Rattle.model.specs.declared.Row.{Row}
 use Rattle.step.proofs.step.step.Reads as Step
 use Rattle.soundness.proofs.sound.is_sound.Reads as IsSound
 use Rattle.fresh.proofs.start.fresh.Reads as Fresh
-use Rattle.settle.proofs.query.executing.Reads as Executing
+use Rattle.settle.proofs.query.doing.Reads as DoingQuery
 use Rattle.chain.proofs.walk.chain_end.Reads as ChainEnd
 use Rattle.chain.proofs.walk.chain_ends.Reads as ChainEnds
 use Rattle.chain.proofs.walk.ends_by.Reads as EndsBy
@@ -91,7 +91,7 @@ pub record EachUnique : Type 0 where
   pub step : Unique Step.Post
   pub is-sound : Unique IsSound.Post
   pub fresh : Unique Fresh.Post
-  pub executing : Unique Executing.Post
+  pub doing : Unique DoingQuery.Post
   pub chain-end : Unique ChainEnd.Post
   -- What is taken out of a state, and the first test that refuses an event.
   pub chain-ends : Unique ChainEnds.Post

@@ -8,7 +8,7 @@ use Rattle.laws.proofs.Cases.{split, and-left}
 use Rattle.model.specs.declared.TaskNo.{TaskNo}
 use Rattle.model.specs.declared.ServerNo.{ServerNo}
 use Rattle.model.specs.declared.State.{State}
-use Rattle.model.specs.State.{places, serverAt, taskAt, inUse, here, running, placeNo, executorOf, served, runningAt, executes}
+use Rattle.model.specs.State.{places, serverAt, taskAt, inUse, here, running, executorNumber, executorOf, served, runningAt, executes}
 use Rattle.model.proofs.Chain.{served-below}
 use Rattle.settle.specs.declared.Doing.{Doing}
 use Rattle.settle.specs.declared.Doing.the-variants.{Executes, Spins, NotRunning}
@@ -40,10 +40,10 @@ module _ (st : State) (s : ℕ) where
       is-running = rw (used, runs)
 
       -- `executor` is where the task that it serves executes
-      module _ (end : TaskNo) (executor : ServerNo) (e : end ≡ record { 0 = served st s }) (at : executor ≡ record { 0 = placeNo (taskAt st (end .0) .runs) }) where
+      module _ (end : TaskNo) (executor : ServerNo) (e : end ≡ record { 0 = served st s }) (at : executor ≡ record { 0 = executorNumber (taskAt st (end .0) .runs) }) where
         place : executor .0 ≡ executorOf st (served st s)
         unfolding executorOf
-        place = ap (λ x. x .0) at ∙ ap (λ (t : TaskNo). placeNo (taskAt st (t .0) .runs)) e
+        place = ap (λ x. x .0) at ∙ ap (λ (t : TaskNo). executorNumber (taskAt st (t .0) .runs)) e
 
         pub doing-executes : executor .0 ≡ s → Executes end ≡ doing st s
         unfolding doing executes

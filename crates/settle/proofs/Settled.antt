@@ -22,7 +22,7 @@ use Rattle.model.specs.declared.TaskNo.{TaskNo}
 use Rattle.model.specs.declared.ServerNo.{ServerNo}
 use Rattle.model.specs.declared.Task.{Task}
 use Rattle.model.specs.declared.State.{State}
-use Rattle.model.specs.State.{places, nobody, noTask, taskAt, inUse, here, placeNo, executorOf, served, runningAt, runningFor}
+use Rattle.model.specs.State.{places, nobody, noTask, taskAt, inUse, here, executorNumber, executorOf, served, runningAt, runningFor}
 use Rattle.model.specs.RuleH.{budgetAt, chosen, executorBy, runsIn, withRuns, withTasks, settledTask, settled}
 use Rattle.model.proofs.Chain.{here-past}
 use Rattle.chain.specs.Arrays.{serverOf, serversOf, endsOf, onAt, onBy, budgetIn, budgetsOf}
@@ -131,7 +131,7 @@ module _ (on : List TaskNo) (best : List ServerNo) (acting : ℕ) (st : State) w
   pub settled-more
       : (t : ℕ) (before s : ServerNo) (runs : Runs) (entry : Task) (after : State)
       → inUse (st .tasks) t ≡ true
-      → before ≡ record { 0 = placeNo (taskAt after t .runs) }
+      → before ≡ record { 0 = executorNumber (taskAt after t .runs) }
       → s ≡ record { 0 = executorIn on (before .0) acting (getD best t (record { 0 = 0 }) .0) t }
       → runs ≡ runsIn (s .0)
       → entry ≡ withRuns runs (taskAt after t)
@@ -139,7 +139,7 @@ module _ (on : List TaskNo) (best : List ServerNo) (acting : ℕ) (st : State) w
       → withTasks (set (after .task) t entry) after ≡ settledTo on best acting st (t + 1)
   unfolding settledTo settledTaskBy here executorOf
   settled-more t before s runs entry after used p e x w so-far =
-      let was = ap (λ b. b .0) p ∙ ap (λ k. placeNo (k .runs)) (ahead t after so-far) in
+      let was = ap (λ b. b .0) p ∙ ap (λ k. executorNumber (k .runs)) (ahead t after so-far) in
       ap (λ a. withTasks (set (a .task) t entry) a) so-far
       ∙ ap (λ ts. withTasks ts st) (set-more _ t _ _ entry (w ∙ ap (withRuns runs) (ahead t after so-far) ∙ rw (used, x, e, was)) refl)
 

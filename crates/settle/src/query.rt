@@ -7,7 +7,7 @@ use model::State;
 use model::TaskNo;
 
 // Server s executes the task that it serves, spins for it, or is not Running (nor is a number that is not in use).
-pub fn executing(st: State, s: ServerNo) -> Doing
+pub fn doing(st: State, s: ServerNo) -> Doing
     ensures { λ r. ⌜ r ≡ doing st (s .0) ⌝ }
     ensures said { λ r. ⌜ saidDoing r ≡ saidDoing (doing st (s .0)) ⌝ }
 {

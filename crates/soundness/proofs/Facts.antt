@@ -22,7 +22,7 @@ use Rattle.model.specs.declared.Runs.the-variants.{Nowhere, In}
 use Rattle.model.specs.declared.Owner.{Owner}
 use Rattle.model.specs.declared.Owner.the-variants.{Nobody, By}
 use Rattle.model.specs.declared.State.{State}
-use Rattle.model.specs.State.{places, inUse, inSet, idle, running, recharging, suspended, waiting, awaited, owned, placed, placeNo, runningAt}
+use Rattle.model.specs.State.{places, inUse, inSet, idle, running, recharging, suspended, waiting, awaited, owned, placed, executorNumber, runningAt}
 use Rattle.model.proofs.Chain.{served-below}
 use Rattle.chain.specs.Arrays.{arrayOf, runsFor}
 use Rattle.chain.specs.Computed.{atOrNobody}
@@ -104,12 +104,12 @@ serves-fact p m x =
     (reflects-implies (reflects-self _) (reflects-self _))
     (reflects-or (reflects-self _) (reflects-iff (reflects-self _) (reflects-self _))))
 
-executes-cases : (xs : List ℕ) (t : ℕ) (x : Runs) → executesPasses xs t x ≡ (placed x implies eqb (atOrNobody xs (placeNo x)) t)
+executes-cases : (xs : List ℕ) (t : ℕ) (x : Runs) → executesPasses xs t x ≡ (placed x implies eqb (atOrNobody xs (executorNumber x)) t)
 executes-cases xs t Nowhere = refl
 executes-cases xs t (In s) = refl
 
 pub executes-fact
-    : (xs : List ℕ) (t : ℕ) (x : Runs) → Reflects (executesPasses xs t x) (placed x ≡ true → atOrNobody xs (placeNo x) ≡ t)
+    : (xs : List ℕ) (t : ℕ) (x : Runs) → Reflects (executesPasses xs t x) (placed x ≡ true → atOrNobody xs (executorNumber x) ≡ t)
 executes-fact xs t x = rw (executes-cases xs t x) (reflects-implies (reflects-self _) (reflects-eq _ _))
 
 pub owner-fact

@@ -7,7 +7,7 @@ use lib.ListN.{getD}
 use Rattle.laws.specs.Loops.{sumTo}
 use Rattle.laws.proofs.Reflect.{Reflects, reflects-self, reflects-le, reflects-lt, reflects-eq, reflects-change, reflects-and, reflects-iff}
 use Rattle.model.specs.declared.State.{State}
-use Rattle.model.specs.State.{places, serverAt, taskAt, resourceAt, here, present, declares, running, waiting, awaited, owned, placed, placeNo, ownerOf, served}
+use Rattle.model.specs.State.{places, serverAt, taskAt, resourceAt, here, present, declares, running, waiting, awaited, owned, placed, executorNumber, ownerOf, served}
 use Rattle.model.proofs.Chain.{Open}
 use Rattle.model.proofs.Sound.{Each, EachResource, each-fact, each-resource-fact, Reservation, Declaration, Deadline, Budget, Empty, Idles, Seated, quota-fact, Sizes, sizes-fact}
 use Rattle.chain.specs.Arrays.{arrayOf, wanted, wantedOf, runsFor}
@@ -68,7 +68,7 @@ module _ (st : State) (i : ℕ) where
     pub opens : Open st i
     pub serves : running (serverAt st i .phase) ≡ true → placed (taskAt st (served st i) .runs) ≡ true
     pub idles : Idles st i
-    pub executor : placed (taskAt st i .runs) ≡ true → atOrNobody (arrayOf (runsFor st)) (placeNo (taskAt st i .runs)) ≡ i
+    pub executor : placed (taskAt st i .runs) ≡ true → atOrNobody (arrayOf (runsFor st)) (executorNumber (taskAt st i .runs)) ≡ i
 
   server-facts : Reflects (serverPassesAt st i) ServerFacts
   unfolding serverPassesAt serverPasses

@@ -13,7 +13,7 @@ use Rattle.laws.proofs.Cases.{split, if-yes, tests-same, and-left, and-right, a
 use Rattle.laws.proofs.All.{all-at}
 use Rattle.laws.proofs.Count.{count-found}
 use Rattle.model.specs.declared.State.{State}
-use Rattle.model.specs.State.{places, taskAt, resourceAt, inSet, here, present, declares, awaited, ownerNo, placed, placeNo, ownerOf, runningAt, runningFor, owned}
+use Rattle.model.specs.State.{places, taskAt, resourceAt, inSet, here, present, declares, awaited, ownerNo, placed, executorNumber, ownerOf, runningAt, runningFor, owned}
 use Rattle.model.specs.Sound.{heldAt, queuedAt, sound}
 use Rattle.model.proofs.Chain.{here-below, present-below, owner-here, owner-past}
 use Rattle.model.proofs.Sound.{Each, Wait, Loose, Sound, sound-facts, Agree, Declared, Owned, Executor}
@@ -151,7 +151,7 @@ module _ (st : State) (h : Passed st) where
   executes : (t : ℕ) → here st t ≡ true → Executor st t
   unfolding runningFor runsFor
   executes t y x =
-      let s = placeNo (taskAt st t .runs) in
+      let s = executorNumber (taskAt st t .runs) in
       let e : runsFor st s ≡ t = sym (runs-for-is st s) ∙ h .server t y .executor x in
       split
       (runningAt st s)
@@ -255,10 +255,10 @@ module _ (st : State) (s : Sound st) where
       let e : ownerOf st r ≡ n = eqb-true (ownerOf st r) n (sym (owner-same st r n p y) ∙ eq-eqb n n refl) in
       rw e (here-below st n y)
 
-  executor-runs : (t : ℕ) → here st t ≡ true → placed (taskAt st t .runs) ≡ true → atOrNobody (arrayOf (runsFor st)) (placeNo (taskAt st t .runs)) ≡ t
+  executor-runs : (t : ℕ) → here st t ≡ true → placed (taskAt st t .runs) ≡ true → atOrNobody (arrayOf (runsFor st)) (executorNumber (taskAt st t .runs)) ≡ t
   unfolding runningFor runsFor
   executor-runs t y x =
-      let n = placeNo (taskAt st t .runs) in
+      let n = executorNumber (taskAt st t .runs) in
       let f = facts .executor t y x in
       runs-for-is st n ∙ if-yes _ _ _ (and-left (runningAt st n) _ f) ∙ eqb-true _ _ (and-right (runningAt st n) _ f)
 

@@ -17,7 +17,7 @@ use Rattle.model.specs.declared.State.{State}
 use Rattle.model.specs.declared.Event.{Event}
 use Rattle.model.specs.declared.Event.the-variants.{Wake, Suspend, Dispatch, Preempt, Elapse, Recharge, Lock, Unlock}
 use Rattle.model.specs.declared.Answer.the-variants.{Ok, Executes, Spins, Granted, Waits}
-use Rattle.model.specs.State.{places, noServer, serverAt, taskAt, resourceAt, here, active, running, owned, placed, placeNo, served, runningAt, executorOf, executes}
+use Rattle.model.specs.State.{places, noServer, serverAt, taskAt, resourceAt, here, active, running, owned, placed, executorNumber, served, runningAt, executorOf, executes}
 use Rattle.model.specs.RuleH.{settled}
 use Rattle.model.specs.Events.{withPhase, phased, recharged, changed, acting}
 use Rattle.model.specs.Step.{answered, stateAfter}
@@ -79,7 +79,7 @@ answer-is st (Suspend t) c = refl
 answer-is st (Dispatch s) c =
     let after = stateAfter st (Dispatch s) in
     let end = end-is after (s .0) (here-below st _ (clear-grounds st (Dispatch s) c .0)) in
-    ap (λ (t : TaskNo). if eqb (placeNo (taskAt after (t .0) .runs)) (s .0) then Executes t else Spins t) end ∙ rw (runs-now st s c)
+    ap (λ (t : TaskNo). if eqb (executorNumber (taskAt after (t .0) .runs)) (s .0) then Executes t else Spins t) end ∙ rw (runs-now st s c)
 answer-is st (Preempt s) c =
     let after = stateAfter st (Preempt s) in
     let grounds = clear-grounds st (Preempt s) c in

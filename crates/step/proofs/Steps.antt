@@ -17,7 +17,7 @@ use Rattle.model.specs.declared.Answer.{Answer}
 use Rattle.model.specs.declared.Answer.the-variants.{Refused}
 use Rattle.model.specs.declared.Verdict.{Verdict}
 use Rattle.model.specs.declared.Verdict.the-variants as verdict
-use Rattle.model.specs.State.{noTask, taskAt, resourceAt, suspended, owned, placeNo, served, executorOf}
+use Rattle.model.specs.State.{noTask, taskAt, resourceAt, suspended, owned, executorNumber, served, executorOf}
 use Rattle.model.specs.Sound.{sound}
 use Rattle.model.specs.RuleH.{settled}
 use Rattle.model.specs.Events.{eachServer, woken, slept, rested, phased, recharged, granted, joined, restedEnd, locked, freed, passed, unlocked, withMode, pushed, popped, firstWaiter, changed, acting}
@@ -66,11 +66,11 @@ attempt-taken st e o c q = q ∙ ap (λ x. outcome x st e) (sym (c .unrefused))
 -- no event's own change says anew where a task executes
 changed-executors : (st : State) (e : Event) (i : ℕ) → executorOf (changed st e) i ≡ executorOf st i
 unfolding executorOf woken slept rested eachServer phased recharged locked granted joined restedEnd unlocked freed passed
-changed-executors st (Wake t) i = kept-under (λ k. placeNo (k .runs)) (st .task) (t .0) i _ noTask refl
-changed-executors st (Suspend t) i = kept-under (λ k. placeNo (k .runs)) (st .task) (t .0) i _ noTask refl
+changed-executors st (Wake t) i = kept-under (λ k. executorNumber (k .runs)) (st .task) (t .0) i _ noTask refl
+changed-executors st (Suspend t) i = kept-under (λ k. executorNumber (k .runs)) (st .task) (t .0) i _ noTask refl
 changed-executors st (Dispatch s) i = refl
 changed-executors st (Preempt s) i = refl
-changed-executors st (Elapse n) i = ap (λ k. placeNo (k .1)) (elapsed-keeps st n i)
+changed-executors st (Elapse n) i = ap (λ k. executorNumber (k .1)) (elapsed-keeps st n i)
 changed-executors st (Recharge s) i = refl
 changed-executors st (Lock t r) i =
     split
@@ -79,11 +79,11 @@ changed-executors st (Lock t r) i =
     rw y
     (split
     (suspended (taskAt (joined st (t .0) r) (served (joined st (t .0) r) (t .0)) .mode))
-    (λ z. rw z (kept-under (λ k. placeNo (k .runs)) (st .task) (t .0) i _ noTask refl))
-    (λ n. rw n (kept-under (λ k. placeNo (k .runs)) (st .task) (t .0) i _ noTask refl))))
-    (λ n. rw n (kept-under (λ k. placeNo (k .runs)) (st .task) (t .0) i _ noTask refl))
+    (λ z. rw z (kept-under (λ k. executorNumber (k .runs)) (st .task) (t .0) i _ noTask refl))
+    (λ n. rw n (kept-under (λ k. executorNumber (k .runs)) (st .task) (t .0) i _ noTask refl))))
+    (λ n. rw n (kept-under (λ k. executorNumber (k .runs)) (st .task) (t .0) i _ noTask refl))
 changed-executors st (Unlock t r) i =
-    let once = kept-under (λ k. placeNo (k .runs)) (st .task) (t .0) in
+    let once = kept-under (λ k. executorNumber (k .runs)) (st .task) (t .0) in
     let shorter = popped (taskAt st (t .0)) in
     let heir = firstWaiter (resourceAt st r) in
     let waiter = pushed r (withMode Ready (taskAt st heir)) in
@@ -92,7 +92,7 @@ changed-executors st (Unlock t r) i =
     (λ y. rw y (once i shorter noTask refl))
     (λ n.
     rw n
-    (kept-under (λ k. placeNo (k .runs)) (set (st .task) (t .0) shorter) heir i waiter noTask (sym (once heir shorter noTask refl))
+    (kept-under (λ k. executorNumber (k .runs)) (set (st .task) (t .0) shorter) heir i waiter noTask (sym (once heir shorter noTask refl))
     ∙ once i shorter noTask refl))
 
 -- the change, the state after rule H and the answer, as the code has them

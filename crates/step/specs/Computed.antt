@@ -11,7 +11,7 @@ use Rattle.model.specs.declared.Event.{Event}
 use Rattle.model.specs.declared.Event.the-variants.{Wake, Suspend, Dispatch, Preempt, Elapse, Recharge, Lock, Unlock}
 use Rattle.model.specs.declared.Answer.{Answer}
 use Rattle.model.specs.declared.Answer.the-variants.{Ok, Executes, Spins}
-use Rattle.model.specs.State.{places, noTask, placed, placeNo}
+use Rattle.model.specs.State.{places, noTask, placed, executorNumber}
 
 -- the task that s serves, and its entry
 abbrev pub endAt : List TaskNo → ℕ → TaskNo
@@ -24,7 +24,7 @@ abbrev pub answerBy : Answer → List Task → List TaskNo → Event → Answer
 answerBy told tasks ends (Wake t) = told
 answerBy told tasks ends (Suspend t) = told
 answerBy told tasks ends (Dispatch s) =
-    if eqb (placeNo (entryAt tasks ends (s .0) .runs)) (s .0) then Executes (endAt ends (s .0)) else Spins (endAt ends (s .0))
+    if eqb (executorNumber (entryAt tasks ends (s .0) .runs)) (s .0) then Executes (endAt ends (s .0)) else Spins (endAt ends (s .0))
 answerBy told tasks ends (Preempt s) = if placed (entryAt tasks ends (s .0) .runs) then told else Ok 0
 answerBy told tasks ends (Elapse n) = told
 answerBy told tasks ends (Recharge s) = told

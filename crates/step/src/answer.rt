@@ -4,7 +4,7 @@ ghost use mathlib.Core.Path.{_≡_};
 ghost use Prim.Native.Nat.{_<_};
 ghost use lib.Dec.{eqb};
 ghost use Rattle.laws.specs.Tests.{if_then_else_};
-ghost use Rattle.model.specs.State.{placed, placeNo};
+ghost use Rattle.model.specs.State.{placed, executorNumber};
 ghost use Rattle.step.specs.Computed.{answerBy, Within};
 use model::Answer;
 use model::Event;
@@ -15,7 +15,7 @@ use model::TaskNo;
 
 // `executes` or `spins`, and the task served.
 fn dispatched(task: Task, end: TaskNo, s: ServerNo) -> Answer
-    ensures { λ r. ⌜ r ≡ (if eqb (placeNo (task .runs)) (s .0) then Answer.Executes end else Answer.Spins end) ⌝ }
+    ensures { λ r. ⌜ r ≡ (if eqb (executorNumber (task .runs)) (s .0) then Answer.Executes end else Answer.Spins end) ⌝ }
 {
     let runs = task.runs;
     let executor = model::entries::executor_in(runs);

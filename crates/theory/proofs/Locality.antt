@@ -11,7 +11,7 @@ use Rattle.laws.proofs.SameAt.{SameAt, store-both, stored-both, each-both}
 use Rattle.reordering.specs.Order.{Kind, time, group, sees}
 use Rattle.reordering.proofs.Local.{group-inj, time-group}
 use Rattle.theory.proofs.Declared.{TaskNo, Active, Running, Suspended, Ready, Waiting, Runs, Nowhere, In, Nobody, By, Server, Task, Resource, State, Event, Wake, Suspend, Dispatch, Preempt, Elapse, Recharge, Lock, Unlock}
-use Rattle.model.specs.State.{places, noServer, noTask, noResource, serverAt, taskAt, resourceAt, here, present, idle, active, running, suspended, awaited, owned, ownerNo, placed, placeNo, served, runningFor, executorOf}
+use Rattle.model.specs.State.{places, noServer, noTask, noResource, serverAt, taskAt, resourceAt, here, present, idle, active, running, suspended, awaited, owned, ownerNo, placed, executorNumber, served, runningFor, executorOf}
 use Rattle.model.specs.RuleH.{chosen, executorBy, runsIn, settledTask, settled}
 use Rattle.model.specs.Events.{withPhase, refilled, withMode, serverBy, eachServer, wakes, wokenServer, woken, rests, restedServer, rested, slept, phased, ownTicks, lentTicks, spinTicks, runsOut, spentServer, tickedTask, taskBy, elapsed, rechargedPhase, recharged, pushed, popped, withOwner, enqueued, dequeued, firstWaiter, granted, joined, restedEnd, locked, freed, passed, unlocked, changed, acting}
 use Rattle.model.specs.Step.{stateAfter}
@@ -342,7 +342,7 @@ module _ (l : Labels) (g : ℕ) (old was s u : State) (before : Agree l g old wa
       (each-both (now .task-same) (settledTask old a s) (settledTask was a u) (settled-task-same a)) (now .resource-same)
 
 -- and where it is settled already it changes nothing
-runs-again : (x : Runs) → placed x ≡ true → placeNo x < places → runsIn (placeNo x) ≡ x
+runs-again : (x : Runs) → placed x ≡ true → executorNumber x < places → runsIn (executorNumber x) ≡ x
 runs-again Nowhere p k = holds-fails p refl
 runs-again (In s) p k = rw (lt-ltb (s .0) places k) refl
 
@@ -368,7 +368,7 @@ module _ (st : State) (ok : Loose st) where
       let f = ok .executor t h y in
       rw f (runs-again (taskAt st t .runs) y (serving-below st t _ f)))
       (λ n.
-      rw (unserved t n (placeNo (taskAt st t .runs)), unserved t n a, runs-nowhere (taskAt st t .runs) n)
+      rw (unserved t n (executorNumber (taskAt st t .runs)), unserved t n a, runs-nowhere (taskAt st t .runs) n)
       (split (ltb (chosen st t) places) (λ y. holds-fails (chosen-serves st t (ltb-true _ _ y)) (unserved t n (chosen st t))) (λ x. rw x refl)))
 
   settled-entry : (a t : ℕ) → settledTask st a st t ≡ taskAt st t

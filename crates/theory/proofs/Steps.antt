@@ -6,7 +6,7 @@ use Rattle.theory.proofs.Kit.{_≡_, refl, sym, _∙_, true, false, ℕ
 use Rattle.laws.proofs.Cases.{split, holds-fails, unheld-fails}
 use Rattle.laws.proofs.Set.{set-at}
 use Rattle.theory.proofs.Declared.{Runs, Nowhere, In, Task, State, Event, Suspended, Ready, Wake, Suspend, Dispatch, Preempt, Elapse, Recharge, Lock, Unlock}
-use Rattle.model.specs.State.{nobody, noTask, serverAt, taskAt, resourceAt, here, present, running, placed, placeNo, served, runningAt, runningFor, executorOf, executing, waiting, awaited, owned}
+use Rattle.model.specs.State.{nobody, noTask, serverAt, taskAt, resourceAt, here, present, running, placed, executorNumber, served, runningAt, runningFor, executorOf, executing, waiting, awaited, owned}
 use Rattle.model.specs.Shape.{Shaped}
 use Rattle.model.specs.RuleH.{budgetAt, chosen, settledTask, settled}
 use Rattle.model.specs.Events.{changed, acting, wokenServer, woken, restedServer, rested, slept, phased, elapsed, recharged, granted, freed, locked, unlocked}
@@ -26,7 +26,7 @@ use Rattle.theory.proofs.Serving.{put-alike, stirred-alike, elapsed-ali
 use Rattle.theory.proofs.Locking.{quiet-served}
 use Rattle.model.proofs.Variants.{suspended-is}
 
-unplaced : (x : Runs) → placed x ≡ false → placeNo x ≡ nobody
+unplaced : (x : Runs) → placed x ≡ false → executorNumber x ≡ nobody
 unplaced Nowhere e = refl
 unplaced (In s) e = holds-fails refl e
 

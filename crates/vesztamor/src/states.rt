@@ -67,5 +67,5 @@ pub extern "C" fn vesztamor_executing(state: &[u8], server: u16) -> u64
     let ImageAnswer::Held = answer else {
         return refusal(1);
     };
-    doing_answer(settle::query::executing(held, ServerNo(server)))
+    doing_answer(settle::query::doing(held, ServerNo(server)))
 }

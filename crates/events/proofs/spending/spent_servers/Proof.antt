@@ -8,7 +8,7 @@ use Rattle.laws.proofs.Count.{bit-le}
 use Rattle.model.specs.State.{here}
 use Rattle.model.specs.Events.{runsOut, spentServer}
 use Rattle.chain.proofs.Arrays.{end-served, end-below}
-use Rattle.events.proofs.Turns.{Turning, turning-none, turning-more, turning-skip, turning-done, executes-here}
+use Rattle.events.proofs.Turns.{Counting, counting-none, counting-more, counting-skip, counting-done, executes-here}
 use Rattle.events.proofs.Ticks.{out-here, out-past, spent-here, lasts, accounts-fit}
 use Rattle.events.proofs.spending.spent_servers.Statement.{statement}
 use Rattle.events.proofs.spending.spent_servers.Tie as tie
@@ -18,9 +18,9 @@ unfolding here
 spent-servers-spec =
     tie.close
     (tie.spec
-    (λ st n ends before served servers₀ count₀ s₀ servers count s. Turning st (runsOut st n) (spentServer st n) s count servers)
+    (λ st n ends before served servers₀ count₀ s₀ servers count s. Counting st (runsOut st n) (spentServer st n) s count servers)
     (λ st n ends before served servers₀ count₀ s₀ servers count s. 16 - s)
-    (λ c. turning-none)
+    (λ c. counting-none)
     (λ c κs. search needs) (λ c. omega arith) (λ c. omega arith) (λ c. omega arith) (λ c. omega arith) (λ c. search needs)
     (λ c.
     let in-loop = c .before .before .before .before .before in
@@ -50,7 +50,7 @@ spent-servers-spec =
     (λ w.
     let here = used ∙ w .0 .taken in
     let executing = w .8 .ensures ∙ executes-here _ _ _ _ _ here end (w .6 .ensures) (w .5 .ensures) in
-    turning-more below (at-loop .loop .inv) here (w .13) (spent-here _ _ _ _ _ _ here end executing (w .10 .ensures)) (w .14) (w .12 .ensures) (out-here _ _ _ _ here (w .11 .ensures)))
-    (λ w. turning-skip below (at-loop .loop .inv) (used ∙ w .0 .left) (w .1) (w .2) (out-past _ _ _ (used ∙ w .0 .left)))
+    counting-more below (at-loop .loop .inv) here (w .13) (spent-here _ _ _ _ _ _ here end executing (w .10 .ensures)) (w .14) (w .12 .ensures) (out-here _ _ _ _ here (w .11 .ensures)))
+    (λ w. counting-skip below (at-loop .loop .inv) (used ∙ w .0 .left) (w .1) (w .2) (out-past _ _ _ (used ∙ w .0 .left)))
     (c .if1 .came))
-    (λ c. turning-done (c .loop-test .left) (c .before .loop .inv)))
+    (λ c. counting-done (c .loop-test .left) (c .before .loop .inv)))

@@ -8,7 +8,7 @@ use Rattle.laws.proofs.Count.{bit-le}
 use Rattle.model.specs.State.{here}
 use Rattle.chain.proofs.Arrays.{end-served}
 use Rattle.events.specs.Computed.{turns, turnedServer}
-use Rattle.events.proofs.Turns.{Turning, turning-none, turning-more, turning-skip, turning-done, turns-here, turns-past, turned-here}
+use Rattle.events.proofs.Turns.{Counting, counting-none, counting-more, counting-skip, counting-done, turns-here, turns-past, turned-here}
 use Rattle.events.proofs.turning.turned_servers.Statement.{statement}
 use Rattle.events.proofs.turning.turned_servers.Tie as tie
 
@@ -17,9 +17,9 @@ unfolding here
 turned-servers-spec =
     tie.close
     (tie.spec
-    (λ st task turn ends before servers₀ count₀ s₀ servers count s. Turning st (turns turn st (task .0)) (turnedServer turn st (task .0)) s count servers)
+    (λ st task turn ends before servers₀ count₀ s₀ servers count s. Counting st (turns turn st (task .0)) (turnedServer turn st (task .0)) s count servers)
     (λ st task turn ends before servers₀ count₀ s₀ servers count s. 16 - s)
-    (λ c. turning-none)
+    (λ c. counting-none)
     (λ c κs. search needs) (λ c. omega arith) (λ c. omega arith) (λ c. omega arith) (λ c. omega arith) (λ c κs. search needs) (λ c κs. search needs)
     (λ c κs.
     let taken = c .before .before .before .before .before .before in
@@ -39,7 +39,7 @@ turned-servers-spec =
     (λ w.
     let here = used ∙ w .0 .taken in
     let turning = turns-here _ _ _ _ _ _ _ here (w .3 .ensures) (end-served _ _ _ (at-loop .before .before .pre .0) below) (w .6 .ensures) in
-    turning-more below (at-loop .loop .inv) here (w .9) (turned-here _ _ _ _ _ _ turning (w .7 .ensures)) (w .10) (w .8 .ensures) turning)
-    (λ w. turning-skip below (at-loop .loop .inv) (used ∙ w .0 .left) (w .1) (w .2) (turns-past _ _ _ _ (used ∙ w .0 .left)))
+    counting-more below (at-loop .loop .inv) here (w .9) (turned-here _ _ _ _ _ _ turning (w .7 .ensures)) (w .10) (w .8 .ensures) turning)
+    (λ w. counting-skip below (at-loop .loop .inv) (used ∙ w .0 .left) (w .1) (w .2) (turns-past _ _ _ _ (used ∙ w .0 .left)))
     (c .if1 .came))
-    (λ c. turning-done (c .loop-test .left) (c .before .loop .inv)))
+    (λ c. counting-done (c .loop-test .left) (c .before .loop .inv)))

@@ -1,13 +1,13 @@
--- `settle::query::executing` meets its contract. Assumes nothing.
+-- `settle::query::doing` meets its contract. Assumes nothing.
 use mathlib.Core.Path.{sym, _∙_}
 use borrow.Author.Needs.{needs}
 use borrow.Author.Tests.{not-true, not-false}
 use Rattle.settle.proofs.Answers.{and-said, doing-past, doing-off, number-below, end-below, doing-executes, doing-spins}
-use Rattle.settle.proofs.query.executing.Statement.{statement}
-use Rattle.settle.proofs.query.executing.Tie as tie
+use Rattle.settle.proofs.query.doing.Statement.{statement}
+use Rattle.settle.proofs.query.doing.Tie as tie
 
-pub executing-spec : {M : Type 1} → statement M
-executing-spec =
+pub doing-spec : {M : Type 1} → statement M
+doing-spec =
     tie.close
     (tie.spec
     (λ c. search needs)
