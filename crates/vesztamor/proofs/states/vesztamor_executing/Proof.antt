@@ -19,4 +19,4 @@ vesztamor-executing-spec =
     let told = c .before .before in
     c .doing-answer .ensures
     ∙ ap packed
-    (ap (λ d. doingTold (saidDoing d)) (c .before .executing .ensures .0) ∙ executing-some _ _ _ (held _ _ (told .before .before .before .read .ensures) (told .enum-told .given .1)))))
+    (ap (λ d. doingTold (saidDoing d)) (c .before .doing .ensures .0) ∙ executing-some _ _ _ (held _ _ (told .before .before .before .read .ensures) (told .enum-told .given .1)))))
