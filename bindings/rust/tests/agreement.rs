@@ -112,8 +112,10 @@ fn room_for_a_text_is_that_of_the_source() {
         vesztamor::text_bytes(1) - vesztamor::text_bytes(0),
         vesztamor::text_bytes(0),
     );
-    assert!(text("crates/listing/specs/Replay.antt")
-        .contains(&format!("room n = {each} * n + {more}\n")));
+    let source = text("crates/listing/specs/Replay.antt");
+    assert!(source.contains("room n = roomEach * n + roomMore\n"));
+    assert!(source.contains(&format!("roomEach = {each}\n")));
+    assert!(source.contains(&format!("roomMore = {more}\n")));
     assert!(text("bindings/vesztamor.h").contains(&format!(
         "VESZTAMOR_TEXT_BYTES(trace) ({each} * (size_t)(trace) + {more})\n"
     )));
