@@ -97,25 +97,13 @@ fn a_fresh_state_lies_as_its_page_says() {
 #[test]
 fn a_server_executes_or_spins() {
     let mut state = State::fresh(&table()).unwrap();
-    for event in [
-        Event::Wake { task: 0 },
-        Event::Dispatch { server: 0 },
-        Event::Lock {
-            task: 0,
+    for number in [0, 1] {
+        state.step(Event::Wake { task: number });
+        state.step(Event::Dispatch { server: number });
+        state.step(Event::Lock {
+            task: number,
             resource: 0,
-        },
-    ] {
-        state.step(event);
-    }
-    for event in [
-        Event::Wake { task: 1 },
-        Event::Dispatch { server: 1 },
-        Event::Lock {
-            task: 1,
-            resource: 0,
-        },
-    ] {
-        state.step(event);
+        });
     }
     assert_eq!(state.executing(0), Answer::Executes(0));
     assert_eq!(state.executing(1), Answer::Spins(0));
