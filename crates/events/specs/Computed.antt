@@ -1,4 +1,4 @@
--- How the code computes: the number that an event names; the two turns of the servers that serve a task, waking and resting, as one loop makes them;
+-- How the code computes: whether an event names nobody; the two turns of the servers that serve a task, waking and resting, as one loop makes them;
 -- what n ticks make of one server and one task in use, and of all. Assumes nothing.
 use mathlib.Core.Bool.{Bool, true, false, _||_, not, _&&_}
 use mathlib.Core.List.{List}
@@ -21,16 +21,6 @@ use Rattle.model.specs.Events.{withPhase, refilled, serverBy, wakes, wokenServe
 use Rattle.events.specs.declared.turning.Turn.{Turn}
 use Rattle.events.specs.declared.turning.Turn.the-variants.{Wakes, Rests}
 use Rattle.events.specs.declared.turning.Turned.{Turned}
-
-abbrev pub numberOf : Event → ℕ
-numberOf (Wake t) = t .0
-numberOf (Suspend t) = t .0
-numberOf (Dispatch s) = s .0
-numberOf (Preempt s) = s .0
-numberOf (Elapse n) = 0
-numberOf (Recharge s) = s .0
-numberOf (Lock t r) = t .0
-numberOf (Unlock t r) = t .0
 
 abbrev pub elapses : Event → Bool
 elapses (Wake t) = false

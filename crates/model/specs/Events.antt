@@ -218,3 +218,14 @@ acting st (Elapse n) = nobody
 acting st (Recharge s) = nobody
 acting st (Lock t r) = executorOf st (t .0)
 acting st (Unlock t r) = executorOf st (t .0)
+
+-- rules 7.1 to 7.10: the number of the task or the server that the event names; an elapse names none
+abbrev pub numberOf : Event → ℕ
+numberOf (Wake t) = t .0
+numberOf (Suspend t) = t .0
+numberOf (Dispatch s) = s .0
+numberOf (Preempt s) = s .0
+numberOf (Elapse n) = 0
+numberOf (Recharge s) = s .0
+numberOf (Lock t r) = t .0
+numberOf (Unlock t r) = t .0

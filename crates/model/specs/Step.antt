@@ -8,16 +8,18 @@ use lib.Dec.{ltb, leb, eqb}
 use lib.ListN.{getD}
 use Rattle.laws.specs.Tests.{if_then_else_, bit, _implies_, _when_or_, accepted, firstOf, without}
 use Rattle.laws.specs.Loops.{countTo}
+use Rattle.model.specs.declared.Mode.{Mode}
+use Rattle.model.specs.declared.Task.{Task}
 use Rattle.model.specs.declared.State.{State}
 use Rattle.model.specs.declared.Event.{Event}
 use Rattle.model.specs.declared.Event.the-variants.{Wake, Suspend, Dispatch, Preempt, Elapse, Recharge, Lock, Unlock}
 use Rattle.model.specs.declared.Answer.{Answer}
-use Rattle.model.specs.declared.Answer.the-variants.{Ok, Executes, Spins, Granted, Waits, Passed, Freed, Refused}
+use Rattle.model.specs.declared.Answer.the-variants.{Ok, Executes, Spins, Granted, Waits, Passed, Freed, Refused, RefusedWaiting}
 use Rattle.model.specs.declared.Outcome.{Outcome}
-use Rattle.model.specs.State.{TaskNumber, ServerNumber, ResourceNumber, places, serverAt, taskAt, resourceAt, here, present, declares, active, running, recharging, suspended, owned, ownerNo, placed, served, runningAt, executing, executes}
+use Rattle.model.specs.State.{TaskNumber, ServerNumber, ResourceNumber, places, serverAt, taskAt, resourceAt, here, present, declares, active, running, recharging, suspended, waiting, awaited, owned, ownerNo, placed, served, runningAt, executes}
 use Rattle.model.specs.Sound.{each, clockLimit, sound}
 use Rattle.model.specs.RuleH.{settled}
-use Rattle.model.specs.Events.{wakes, rests, runsOut, firstWaiter, changed, acting}
+use Rattle.model.specs.Events.{wakes, rests, runsOut, firstWaiter, changed, acting, numberOf}
 
 -- rule 10.2, number 8: every processor has a Running server
 unfoldable pub crowded : State → Bool
@@ -35,10 +37,19 @@ endsAt st t r = owned (resourceAt st r .owner) && eqb (served st (ownerNo (resou
 unfoldable pub topOf : State → TaskNumber → ResourceNumber
 topOf st t = getD (taskAt st t .held) (taskAt st t .depth - 1) 0
 
+-- rule 10.2, numbers 61 to 63, where a task itself acts: it is suspended, it waits, no Running server serves it; then the tests that follow. In a sound
+-- state a task executes where a Running server serves it, and only there (rules 4.14 and 4.15).
+abbrev pub stalled : Task → List (ℕ × Bool) → List (ℕ × Bool)
+stalled task following =
+    61 when suspended (task .mode) or
+    62 when waiting (task .mode) or
+    63 when not (placed (task .runs)) or
+    following
+
 -- rule 10.2: the tests of each event after 1, in their order; rule 10.3: unlock does not ask what is declared
 abbrev pub tests : State → Event → List (ℕ × Bool)
 tests st (Wake t) = 2 when not (here st (t .0)) or 5 when not (suspended (taskAt st (t .0) .mode)) or accepted
-tests st (Suspend t) = 2 when not (here st (t .0)) or 6 when not (executing st (t .0)) or accepted
+tests st (Suspend t) = 2 when not (here st (t .0)) or stalled (taskAt st (t .0)) accepted
 tests st (Dispatch s) =
     2 when not (here st (s .0)) or
     7 when not (active (serverAt st (s .0) .phase)) or
@@ -59,17 +70,19 @@ tests st (Lock t r) =
     2 when not (here st (t .0)) or
     3 when not (present st r) or
     4 when not (declares st (t .0) r) or
-    6 when not (executing st (t .0)) or
-    15 when eqb (ownerNo (resourceAt st r .owner)) (t .0) or
+    stalled
+    (taskAt st (t .0))
+    (15 when eqb (ownerNo (resourceAt st r .owner)) (t .0) or
     16 when endsAt st (t .0) r or
-    accepted
+    accepted)
 tests st (Unlock t r) =
     2 when not (here st (t .0)) or
     3 when not (present st r) or
-    6 when not (executing st (t .0)) or
-    17 when not (eqb (ownerNo (resourceAt st r .owner)) (t .0)) or
+    stalled
+    (taskAt st (t .0))
+    (17 when not (eqb (ownerNo (resourceAt st r .owner)) (t .0)) or
     18 when not (eqb (topOf st (t .0)) r) or
-    accepted
+    accepted)
 
 -- rules 7.1 to 7.10: the answer, from the state before and the state after
 abbrev pub answered : State → State → Event → Answer
@@ -89,10 +102,14 @@ answered st after (Unlock t r) =
 unfoldable pub stateAfter : State → Event → State
 stateAfter st e = settled st (acting st e) (changed st e)
 
--- rule 10.1: a refused event has its number for an answer, and the state stays
+-- rule 10.1: the answer that refuses by the number n; 62 goes with the resource that the task in this mode awaits
+abbrev pub refusing : Mode → ℕ → Answer
+refusing mode n = if eqb n 62 then RefusedWaiting (awaited mode) else Refused n
+
+-- rule 10.1: a refused event has such an answer, and the state stays
 abbrev pub outcome : Option ℕ → State → Event → Outcome
 outcome none st e = record { answer = answered st (stateAfter st e) e; state = stateAfter st e }
-outcome (some n) st e = record { answer = Refused n; state = st }
+outcome (some n) st e = record { answer = refusing (taskAt st (numberOf e) .mode) n; state = st }
 
 -- rule 10.2: a step on a state that is sound, and on any state
 unfoldable pub attempted : State → Event → Outcome

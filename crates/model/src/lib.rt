@@ -95,6 +95,8 @@ pub enum Answer {
     Passed(TaskNo),
     Freed(u16),
     Refused(u16),
+    // refused 62: the task waits for this resource
+    RefusedWaiting(u16),
 }
 
 // What a step gives back. The answer stands beside the state, since an enum holds no array.
