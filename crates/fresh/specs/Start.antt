@@ -3,7 +3,7 @@ use mathlib.Core.Option.{Option, none, some}
 use Prim.Native.Nat.{ℕ}
 use Rattle.model.specs.declared.FreshAnswer.{FreshAnswer}
 use Rattle.model.specs.declared.FreshAnswer.the-variants.{Made, Refused}
-use Rattle.model.specs.Said.{Word, ok, refused}
+use Rattle.model.specs.Said.{Saying, ok, refused}
 
 abbrev pub answerOf : Option ℕ → FreshAnswer
 answerOf none = Made
@@ -15,6 +15,6 @@ firstAnswer Made later = later
 firstAnswer (Refused n) later = Refused n
 
 -- as a word and a number
-abbrev pub freshSays : Option ℕ → Word × ℕ
-freshSays none = (ok, 0)
-freshSays (some n) = (refused, n)
+abbrev pub freshSays : Option ℕ → Saying
+freshSays none = (ok, 0, none)
+freshSays (some n) = (refused, n, none)

@@ -30,5 +30,6 @@ pub fn rows_written(answer: Answer) -> u16
         Answer::Passed(_) => 0,
         Answer::Freed(_) => 0,
         Answer::Refused(_) => 0,
+        Answer::RefusedWaiting(_) => 0,
     }
 }

@@ -7,7 +7,7 @@ use native.Mathlib.Omega.{arith}
 use lib.Dec.{ltb, eqb}
 use borrow.Author.Tests.{eqb-true, eqb-false, ltb-false, not-false}
 use Rattle.laws.specs.Tests.{firstOf, without}
-use Rattle.laws.proofs.Cases.{none-some, none-fails, none-later, first-without}
+use Rattle.laws.proofs.Cases.{and-both, none-some, none-fails, none-later, first-without}
 use Rattle.laws.proofs.Reflect.{reflects-self, reflects-le, reflects-implies}
 use Rattle.model.specs.declared.State.{State}
 use Rattle.model.specs.declared.Event.{Event}
@@ -16,6 +16,7 @@ use Rattle.model.specs.State.{serverAt, taskAt, resourceAt, here, presen
 use Rattle.model.specs.Sound.{clockLimit}
 use Rattle.model.specs.Step.{affords, endsAt, topOf, tests}
 use Rattle.model.proofs.Sound.{each-fact}
+use Rattle.model.proofs.Stalled.{unstalled}
 
 abbrev pub Grounds : State → Event → Type 0
 Grounds st (Wake t) = (here st (t .0) ≡ true) × (suspended (taskAt st (t .0) .mode) ≡ true)
@@ -44,9 +45,11 @@ first-of-two true b h = h
 first-of-two false b h = refl
 
 pub grounds : (st : State) (e : Event) → firstOf (without 8 (tests st e)) ≡ none → Grounds st e
-unfolding without affords
+unfolding without affords executing
 grounds st (Wake t) h = (not-false _ (none-fails _ _ _ h), not-false _ (none-fails _ _ _ (none-later _ _ _ h)))
-grounds st (Suspend t) h = (not-false _ (none-fails _ _ _ h), not-false _ (none-fails _ _ _ (none-later _ _ _ h)))
+grounds st (Suspend t) h =
+    let used = not-false _ (none-fails _ _ _ h) in
+    (used, and-both _ _ used (unstalled (taskAt st (t .0)) _ (none-later _ _ _ h) .0 .2))
 grounds st (Dispatch s) h = (not-false _ (none-fails _ _ _ h), not-false _ (none-fails _ _ _ (none-later _ _ _ h)))
 grounds st (Preempt s) h = (not-false _ (none-fails _ _ _ h), not-false _ (none-fails _ _ _ (none-later _ _ _ h)))
 grounds st (Elapse n) h =
@@ -62,26 +65,24 @@ grounds st (Recharge s) h = (not-false _ (none-fails _ _ _ h), not-false _ (none
 grounds st (Lock t r) h =
     let h3 = none-later _ _ _ h in
     let h4 = none-later _ _ _ h3 in
-    let h6 = none-later _ _ _ h4 in
-    let h15 = none-later _ _ _ h6 in
-    let h16 = none-later _ _ _ h15 in (
-      not-false _ (none-fails _ _ _ h),
+    let acts = unstalled (taskAt st (t .0)) _ (none-later _ _ _ h4) in
+    let used = not-false _ (none-fails _ _ _ h) in (
+      used,
       not-false _ (none-fails _ _ _ h3),
       not-false _ (none-fails _ _ _ h4),
-      not-false _ (none-fails _ _ _ h6),
-      eqb-false _ _ (none-fails _ _ _ h15),
-      none-fails _ _ _ h16,
+      and-both _ _ used (acts .0 .2),
+      eqb-false _ _ (none-fails _ _ _ (acts .1)),
+      none-fails _ _ _ (none-later _ _ _ (acts .1)),
     )
 grounds st (Unlock t r) h =
     let h3 = none-later _ _ _ h in
-    let h6 = none-later _ _ _ h3 in
-    let h17 = none-later _ _ _ h6 in
-    let h18 = none-later _ _ _ h17 in (
-      not-false _ (none-fails _ _ _ h),
+    let acts = unstalled (taskAt st (t .0)) _ (none-later _ _ _ h3) in
+    let used = not-false _ (none-fails _ _ _ h) in (
+      used,
       not-false _ (none-fails _ _ _ h3),
-      not-false _ (none-fails _ _ _ h6),
-      eqb-true _ _ (not-false _ (none-fails _ _ _ h17)),
-      eqb-true _ _ (not-false _ (none-fails _ _ _ h18)),
+      and-both _ _ used (acts .0 .2),
+      eqb-true _ _ (not-false _ (none-fails _ _ _ (acts .1))),
+      eqb-true _ _ (not-false _ (none-fails _ _ _ (none-later _ _ _ (acts .1)))),
     )
 
 -- what passes every test passes them without the one for processors

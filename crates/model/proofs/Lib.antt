@@ -5,5 +5,6 @@ pub mod RuleH
 pub mod Room
 pub mod Boxes
 pub mod Variants
+pub mod Stalled
 pub mod Grounds
 pub mod Refused
