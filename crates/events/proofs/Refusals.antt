@@ -2,7 +2,7 @@
 use mathlib.Core.Path.{_≡_, refl, sym, ap, _∙_}
 use mathlib.Core.Bool.{Bool, true, false, not, _||_}
 use mathlib.Core.List.{List}
-use mathlib.Core.Option.{some}
+use mathlib.Core.Option.{Option, some}
 use Prim.Native.Nat.{ℕ, _-_, _<_, _≤_}
 use native.Mathlib.Omega.{arith}
 use lib.Dec.{ltb}
@@ -77,6 +77,9 @@ top-inside held depth at e = ap (λ i. getD held i 0) e
 pub top-past : (held : List ℕ) (depth at : ℕ) → length held ≡ 16 → at ≡ depth - 1 → 16 ≤ at → 0 ≡ getD held (depth - 1) 0
 top-past held depth at n e l = sym (List·getD-eq-default held 0 (omega arith))
 
--- an accepted event is clear
+-- the number that a refusal tells is that of the first test that refuses; an accepted event is clear
+pub refused-by : (o : Option ℕ) (v : Verdict) {n : ℕ} → v ≡ verdict o → v ≡ Refused n → o ≡ some n
+refused-by o v {n} h r = verdict-some o n (sym h ∙ r)
+
 pub accepted-clear : (st : State) (e : Event) (v : Verdict) → v ≡ verdict (firstOf (tests st e)) → sound st ≡ true → v ≡ Accepted → Clear st e
 accepted-clear st e v h s a = record { is-sound = s; unrefused = verdict-none _ (sym h ∙ a) }
