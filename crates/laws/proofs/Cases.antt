@@ -84,10 +84,13 @@ none-fails n b ts h = split b (λ y. none-some (sym (rw y at h))) (λ f. f)
 pub none-later : (n : ℕ) (b : Bool) (ts : List (ℕ × Bool)) → firstOf ((n, b) ∷ ts) ≡ none → firstOf ts ≡ none
 none-later n b ts h = sym (first-no n b ts (none-fails n b ts h)) ∙ h
 
--- where another number is given, the first fails
+-- where another number is given, the first fails, and the rest give it
 pub first-fails : (n m : ℕ) (b : Bool) (ts : List (ℕ × Bool)) → (n ≡ m → ⊥) → firstOf ((n, b) ∷ ts) ≡ some m → b ≡ false
 unfolding firstOf
 first-fails n m b ts other h = split b (λ y. let q : some n ≡ some m = rw y at h in absurd (other cc)) (λ f. f)
+
+pub first-later : (n m : ℕ) (b : Bool) (ts : List (ℕ × Bool)) → (n ≡ m → ⊥) → firstOf ((n, b) ∷ ts) ≡ some m → firstOf ts ≡ some m
+first-later n m b ts other h = sym (first-no n b ts (first-fails n m b ts other h)) ∙ h
 
 -- where the first test's number is not given, the rest decide
 pub first-rest : (n : ℕ) (b : Bool) (ts : List (ℕ × Bool)) → (firstOf ((n, b) ∷ ts) ≡ some n → ⊥) → firstOf ((n, b) ∷ ts) ≡ firstOf ts

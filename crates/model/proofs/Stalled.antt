@@ -1,14 +1,15 @@
--- The tests 61 to 63 taken apart: what is so where none of them refuses, that one of them that refuses does so whatever follows, and that 62 is told of
--- tasks in use alone. Assumes nothing.
-use mathlib.Core.Path.{_≡_}
+-- The tests 61 to 63 taken apart: what is so where none of them refuses, that one of them that refuses does so whatever follows, and of which events
+-- they are told. Assumes nothing.
+use mathlib.Core.Path.{_≡_, refl}
 use mathlib.Core.Bool.{Bool, true, false, not}
-use mathlib.Core.List.{List}
+use mathlib.Core.List.{List, [], _∷_}
 use mathlib.Core.Option.{none, some}
-use Prim.Native.Nat.{ℕ}
+use Prim.Native.Nat.{ℕ, _≤_}
 use native.Mathlib.Omega.{arith}
-use borrow.Author.Tests.{not-false}
-use Rattle.laws.specs.Tests.{accepted, firstOf, without}
-use Rattle.laws.proofs.Cases.{split, none-some, none-fails, none-later, first-fails, without-never}
+use lib.Dec.{ltb}
+use borrow.Author.Tests.{not-false, ltb-true}
+use Rattle.laws.specs.Tests.{accepted, firstOf}
+use Rattle.laws.proofs.Cases.{split, none-some, none-fails, none-later, first-fails, first-later}
 use Rattle.model.specs.declared.Task.{Task}
 use Rattle.model.specs.declared.State.{State}
 use Rattle.model.specs.declared.Event.{Event}
@@ -16,6 +17,7 @@ use Rattle.model.specs.declared.Event.the-variants.{Wake, Suspend, Dispa
 use Rattle.model.specs.State.{here, suspended, waiting, placed}
 use Rattle.model.specs.Events.{numberOf}
 use Rattle.model.specs.Step.{stalled, tests}
+use Rattle.model.specs.Stalled.{Admitted}
 
 -- neither suspended nor waiting, and it executes
 abbrev pub Acts : Task → Type 0
@@ -44,13 +46,40 @@ module _ (task : Task) (following : List (ℕ × Bool)) where
       (λ y. rw (f61, f62, y) (rw (f61, f62, y) at h))
       (λ f63. none-some (rw (f61, f62, f63) at h))))
 
-pub waits-here : (st : State) (e : Event) → firstOf (tests st e) ≡ some 62 → here st (numberOf e) ≡ true
-unfolding without
-waits-here st (Wake t) h = absurd (without-never 62 (tests st (Wake t)) h)
-waits-here st (Suspend t) h = not-false _ (first-fails 2 62 _ _ (λ q. omega arith) h)
-waits-here st (Dispatch s) h = absurd (without-never 62 (tests st (Dispatch s)) h)
-waits-here st (Preempt s) h = absurd (without-never 62 (tests st (Preempt s)) h)
-waits-here st (Elapse n) h = absurd (without-never 62 (tests st (Elapse n)) h)
-waits-here st (Recharge s) h = absurd (without-never 62 (tests st (Recharge s)) h)
-waits-here st (Lock t r) h = not-false _ (first-fails 2 62 _ _ (λ q. omega arith) h)
-waits-here st (Unlock t r) h = not-false _ (first-fails 2 62 _ _ (λ q. omega arith) h)
+-- no tests tell nothing, and a test with a number below 61 tells none from 61 on
+pub untold : {C : Type 0} (n : ℕ) → firstOf [] ≡ some n → C
+unfolding firstOf
+untold n h = none-some h
+
+module _ (n : ℕ) (high : 61 ≤ n) where
+  other : (m : ℕ) → ltb m 61 ≡ true → m ≡ n → ⊥
+  other m l q = omega (arith, ltb-true m 61 l)
+
+  passed : (m : ℕ) → ltb m 61 ≡ true → (b : Bool) (ts : List (ℕ × Bool)) → firstOf ((m, not b) ∷ ts) ≡ some n → b ≡ true
+  passed m l b ts h = not-false b (first-fails m n (not b) ts (other m l) h)
+
+  pub later : (m : ℕ) → ltb m 61 ≡ true → (b : Bool) (ts : List (ℕ × Bool)) → firstOf ((m, b) ∷ ts) ≡ some n → firstOf ts ≡ some n
+  later m l b ts h = first-later m n b ts (other m l) h
+
+  -- so such a number is told of an event that is admitted, and its task is in use
+  pub admitted : (st : State) (e : Event) → firstOf (tests st e) ≡ some n → Admitted st e
+  admitted st (Wake t) h = untold n (later 5 refl _ _ (later 2 refl _ _ h))
+  admitted st (Suspend t) h = passed 2 refl _ _ h
+  admitted st (Dispatch s) h = untold n (later 8 refl _ _ (later 7 refl _ _ (later 2 refl _ _ h)))
+  admitted st (Preempt s) h = untold n (later 9 refl _ _ (later 2 refl _ _ h))
+  admitted st (Elapse k) h = untold n (later 12 refl _ _ (later 11 refl _ _ (later 10 refl _ _ h)))
+  admitted st (Recharge s) h = untold n (later 14 refl _ _ (later 13 refl _ _ (later 2 refl _ _ h)))
+  admitted st (Lock t r) h =
+      let h3 = later 2 refl _ _ h in
+      (passed 2 refl _ _ h, passed 3 refl _ _ h3, passed 4 refl _ _ (later 3 refl _ _ h3))
+  admitted st (Unlock t r) h = (passed 2 refl _ _ h, passed 3 refl _ _ (later 2 refl _ _ h))
+
+pub admitted-here : (st : State) (e : Event) → Admitted st e → here st (numberOf e) ≡ true
+admitted-here st (Wake t) a = absurd a
+admitted-here st (Suspend t) a = a
+admitted-here st (Dispatch s) a = absurd a
+admitted-here st (Preempt s) a = absurd a
+admitted-here st (Elapse n) a = absurd a
+admitted-here st (Recharge s) a = absurd a
+admitted-here st (Lock t r) a = a .0
+admitted-here st (Unlock t r) a = a .0

@@ -4,6 +4,7 @@ pub mod Fresh
 pub mod RuleH
 pub mod Events
 pub mod Step
+pub mod Stalled
 pub mod Said
 pub mod Meter
 pub mod Groups

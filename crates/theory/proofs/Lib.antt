@@ -32,3 +32,4 @@ pub mod Handing
 pub mod Unread
 pub mod InUse
 pub mod Fixed
+pub mod Stalled

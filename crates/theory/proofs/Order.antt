@@ -25,7 +25,7 @@ use Rattle.model.specs.Sound.{sound}
 use Rattle.model.specs.Shape.{Shaped}
 use Rattle.model.specs.Fresh.{freshRefusal, freshState}
 use Rattle.model.specs.Groups.{itself, through, groupOf, anyKey, kindOf}
-use Rattle.model.proofs.Grounds.{Grounds, grounds}
+use Rattle.model.proofs.Grounds.{Grounds, grounds, unrefused-free}
 use Rattle.model.proofs.Chain.{here-below}
 use Rattle.model.proofs.Sound.{sound-facts}
 use Rattle.fresh.proofs.Fresh.{fresh-sound, fresh-shaped}
@@ -33,7 +33,7 @@ use Rattle.theory.specs.Runs.{refusedBy}
 use Rattle.theory.proofs.Agreement.{Labels, Agree, Homed, here-same, present-same, executes-same, served-same, served-home, Good, good-home, agree-sym, agree-trans, Fits, good-self}
 use Rattle.theory.proofs.Locality.{kindBy, lock-label, unlock-label, owned-label, wakes-same, rests-same, after-same, after-left}
 use Rattle.theory.proofs.Groups.{fact-shares, linked-group}
-use Rattle.theory.proofs.Outcomes.{stepped-sound, stepped-free, outcome-has, outcome-not, no-test-1}
+use Rattle.theory.proofs.Outcomes.{stepped-sound, stepped-free, stepped-has, outcome-has, outcome-not, no-test-1}
 use Rattle.theory.proofs.Soundness.{kept, after-loose}
 use Rattle.theory.proofs.Frames.{declared-kept}
 use Rattle.theory.proofs.Steps.{after-here, after-present}
@@ -252,10 +252,10 @@ module _ (l : Labels) where
       }
 
 -- the groups as labels
-unfoldable declarer : State → ℕ → ℕ → Bool
+unfoldable pub declarer : State → ℕ → ℕ → Bool
 declarer st r t = here st t && declares st t r
 
-unfoldable labelsOf : State → Labels
+unfoldable pub labelsOf : State → Labels
 labelsOf st = record { of-task = groupOf st; of-resource = λ r. groupOf st (bestTo nobody places (declarer st r) anyKey) }
 
 labels-fit : (st : State) → Fits (labelsOf st) st
@@ -286,6 +286,19 @@ kinds-same st = λ i e. each e i
     each (Recharge s) = refl
     each (Lock t r) = refl
     each (Unlock t r) = refl
+
+-- an event of another group leaves a group as it is
+pub left-alone
+    : (st : State) → Shaped st → sound st ≡ true → (e : Event) (g h : ℕ) → kindOf st e ≡ group h → (h ≡ g → ⊥)
+    → Good (labelsOf st) st × Agree (labelsOf st) g st (stepped st e .state) × Good (labelsOf st) (stepped st e .state)
+left-alone st shaped s e g h k n =
+    let l = labelsOf st in
+    let good : Good l st = record { loose = sound-facts st .holds s .is-loose; shaped = shaped; fits = labels-fit st } in
+    let after = stepped-has (λ u. Agree l g st u × Good l u) st e (good-self l g st good, good)
+    (λ y free.
+    let o = grounds st e (unrefused-free st e free) in
+    (after-left l h g st good e (ap (λ kind. kind e) (sym (kinds-same st)) ∙ k) n o, good-after l st e good o)) in
+    (good, after .0, after .1)
 
 -- what is not refused 8 is not refused 1 either
 unrefused : (st : State) → sound st ≡ true → Shaped st → (xs : List Event) → Never (refusedBy 8) (log move st xs) → Never forProcessors (log move st xs)

@@ -16,7 +16,7 @@ use Rattle.model.specs.Events.{runsOut, numberOf}
 use Rattle.model.specs.Step.{crowded, affords, tests, stepped}
 use Rattle.model.proofs.Sound.{Loose, sound-facts}
 use Rattle.model.proofs.Grounds.{Grounds, grounds, unrefused-free}
-use Rattle.model.proofs.Stalled.{waits-here}
+use Rattle.model.proofs.Stalled.{admitted, admitted-here}
 use Rattle.theory.proofs.Outcomes.{stepped-has, stepped-sound}
 use Rattle.theory.proofs.Agreement.{Labels, Agree, Homed, agree-sym, here-same, present-same, next-same, served-same, served-in, for-same, Good}
 use Rattle.theory.proofs.Locality.{kindBy}
@@ -191,7 +191,7 @@ module _ (l : Labels) (s u : State) (c : Covers l s) (a : Agree l 0 s u) (shaped
       (λ h.
       let gs = grounds s e (unrefused-free s e h) in
       (seen e gs, gs, grounds u e (unrefused-free u e (sym (firsts e) ∙ h))))
-      (λ h. a .task-same .entry (numberOf e) (c .task (numberOf e) (waits-here s e h))))
+      (λ h. a .task-same .entry (numberOf e) (c .task (numberOf e) (admitted-here s e (admitted 62 (omega arith) s e h)))))
 
 pub unread
     : (l : Labels) (s u : State) → Covers l s → Agree l 0 s u → Shaped s → Shaped u

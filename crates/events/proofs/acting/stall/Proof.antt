@@ -1,5 +1,5 @@
 -- `events::acting::stall` meets its contract. A return for each mode. Assumes nothing.
-use mathlib.Core.Path.{ap, _∙_}
+use mathlib.Core.Path.{ap}
 use mathlib.Core.Bool.{not}
 use borrow.Author.Needs.{needs}
 use Rattle.laws.specs.Tests.{firstOf}

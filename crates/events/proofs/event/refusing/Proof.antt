@@ -1,12 +1,13 @@
 -- `events::event::refusing` meets its contract. The task of an event that 62 refuses is in use, so that its entry is there. Assumes nothing.
-use mathlib.Core.Path.{sym, ap, _∙_}
+use mathlib.Core.Path.{ap, _∙_}
 use mathlib.Core.Option.{some}
+use native.Mathlib.Omega.{arith}
 use borrow.Author.Needs.{needs}
 use borrow.Author.Tests.{eq-eqb, ne-eqb}
 use Rattle.model.specs.declared.Answer.the-variants.{RefusedWaiting}
 use Rattle.model.specs.State.{taskAt, awaited}
 use Rattle.model.proofs.Chain.{here-below}
-use Rattle.model.proofs.Stalled.{waits-here}
+use Rattle.model.proofs.Stalled.{admitted, admitted-here}
 use Rattle.events.proofs.event.refusing.Statement.{statement}
 use Rattle.events.proofs.event.refusing.Tie as tie
 
@@ -21,7 +22,7 @@ refusing-spec =
     (λ c.
     let asked = c .before in
     let given = asked .before .args in
-    rw (c .number-of .ensures) (here-below (given .t1) _ (waits-here (given .t1) (given .e) (asked .before .pre ∙ ap some (asked .if1 .left)))))
+    rw (c .number-of .ensures) (here-below (given .t1) _ (admitted-here (given .t1) (given .e) (admitted 62 (omega arith) (given .t1) (given .e) (asked .before .pre ∙ ap some (asked .if1 .left))))))
     (λ c κs. search needs)
     (λ c.
     let number = c .before .before in
