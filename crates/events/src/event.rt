@@ -1,13 +1,17 @@
 // Every event by its kind: the first test that refuses it, and its own change. Assumes nothing of a refusal; of a change that the state is sound and
 // that no test refuses.
 ghost use mathlib.Core.Path.{_≡_};
+ghost use mathlib.Core.Option.{some};
 ghost use Rattle.laws.specs.Tests.{firstOf};
-ghost use Rattle.model.specs.Step.{tests};
+ghost use Rattle.model.specs.State.{taskAt};
+ghost use Rattle.model.specs.Events.{numberOf};
+ghost use Rattle.model.specs.Step.{tests, refusing};
 ghost use Rattle.model.specs.Verdicts.{verdict};
 ghost use Rattle.events.specs.Changes.{Clear, changeOf};
-ghost use Rattle.events.specs.Computed.{numberOf, elapses};
+ghost use Rattle.events.specs.Computed.{elapses};
 use crate::Change;
 use crate::turning::Turn;
+use model::Answer;
 use model::Event;
 use model::Phase;
 use model::State;
@@ -55,7 +59,7 @@ pub fn refusal(st: State, e: Event) -> Verdict
     }
     match e {
         Event::Wake(t) => crate::servers::wake_refusal(st.task[t.0 as usize]),
-        Event::Suspend(t) => crate::servers::suspend_refusal(st.task[t.0 as usize]),
+        Event::Suspend(t) => crate::acting::stall(st.task[t.0 as usize]),
         Event::Dispatch(s) => crate::servers::dispatch_refusal(st, s, st.server[s.0 as usize]),
         Event::Preempt(s) => crate::servers::preempt_refusal(st.server[s.0 as usize]),
         Event::Elapse(n) => crate::servers::elapse_refusal(st, n),
@@ -73,6 +77,19 @@ pub fn refusal(st: State, e: Event) -> Verdict
             crate::locks::unlock_refusal(t, r, st.task[t.0 as usize], st.resource[r as usize])
         }
     }
+}
+
+// The answer to an event that the test numbered n refuses: 62 names the resource that its task awaits.
+pub fn refusing(st: State, e: Event, n: u16) -> Answer
+    requires { ⌜ firstOf (tests st e) ≡ some n ⌝ }
+    ensures { λ r. ⌜ r ≡ refusing (taskAt st (numberOf e) .mode) n ⌝ }
+{
+    if n != 62 {
+        return Answer::Refused(n);
+    }
+    let task = st.task[number_of(e) as usize];
+    let mode = task.mode;
+    Answer::RefusedWaiting(model::entries::awaited_no(mode))
 }
 
 // The event's own change.

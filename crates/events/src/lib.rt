@@ -15,6 +15,7 @@ pub struct Change {
     pub acting: ServerNo,
 }
 
+mod acting;
 pub mod event;
 mod locks;
 mod running;

@@ -29,7 +29,7 @@ fn closes(st: State, owner: TaskNo, t: TaskNo) -> bool
     end.0 == t.0
 }
 
-// 4, 6, 15, 16.
+// 4, 61 to 63, 15, 16.
 pub fn lock_refusal(st: State, t: TaskNo, r: u16, task: Task, resource: Resource) -> Verdict
     requires { ⌜ (here st (t .0) ≡ true) × (present st r ≡ true) ⌝ }
     requires { ⌜ (task ≡ taskAt st (t .0)) × (resource ≡ resourceAt st r) ⌝ }
@@ -38,9 +38,9 @@ pub fn lock_refusal(st: State, t: TaskNo, r: u16, task: Task, resource: Resource
     if !model::entries::in_set(task.declared, r as usize) {
         return Verdict::Refused(4);
     }
-    let runs = task.runs;
-    if !model::entries::is_placed(runs) {
-        return Verdict::Refused(6);
+    let stall = crate::acting::stall(task);
+    if let Verdict::Refused(n) = stall {
+        return Verdict::Refused(n);
     }
     let owner = resource.owner;
     if model::entries::owner_no(owner) == t.0 as usize {
@@ -52,13 +52,13 @@ pub fn lock_refusal(st: State, t: TaskNo, r: u16, task: Task, resource: Resource
     }
 }
 
-// 6, 17, 18.
+// 61 to 63, 17, 18.
 pub fn unlock_refusal(t: TaskNo, r: u16, task: Task, resource: Resource) -> Verdict
     ensures { λ v. ⌜ ((st : State) → here st (t .0) ≡ true → present st r ≡ true → task ≡ taskAt st (t .0) → resource ≡ resourceAt st r → v ≡ verdict (firstOf (tests st (Event.Unlock t r)))) ⌝ }
 {
-    let runs = task.runs;
-    if !model::entries::is_placed(runs) {
-        return Verdict::Refused(6);
+    let stall = crate::acting::stall(task);
+    if let Verdict::Refused(n) = stall {
+        return Verdict::Refused(n);
     }
     let owner = resource.owner;
     if model::entries::owner_no(owner) != t.0 as usize {

@@ -3,7 +3,7 @@
 ghost use mathlib.Core.Path.{_≡_};
 ghost use mathlib.Core.Bool.{true, not};
 ghost use Rattle.laws.specs.Tests.{firstOf, if_then_else_};
-ghost use Rattle.model.specs.State.{serverAt, here, running, suspended, placed};
+ghost use Rattle.model.specs.State.{serverAt, here, running, suspended};
 ghost use Rattle.model.specs.Step.{tests};
 ghost use Rattle.model.specs.Verdicts.{verdict, refusedIf};
 ghost use Rattle.events.specs.Changes.{Clear, changeOf, phasedChange};
@@ -31,14 +31,6 @@ pub fn wake_refusal(task: Task) -> Verdict
 {
     let mode = task.mode;
     refused_if(5, !model::entries::is_suspended(mode))
-}
-
-// 6.
-pub fn suspend_refusal(task: Task) -> Verdict
-    ensures { λ v. ⌜ v ≡ refusedIf 6 (not (placed (task .runs))) ⌝ }
-{
-    let runs = task.runs;
-    refused_if(6, !model::entries::is_placed(runs))
 }
 
 // 7, 8.

@@ -2,7 +2,7 @@
 -- Assumes nothing.
 use mathlib.Core.Path.{_≡_, refl, sym, _∙_, ap, ap₂}
 use mathlib.Core.Bool.{true, false}
-use mathlib.Core.Option.{none}
+use mathlib.Core.Option.{none, some}
 use Prim.Native.Nat.{ℕ}
 use lib.Dec.{eqb}
 use lib.ListN.{set}
@@ -15,16 +15,12 @@ use Rattle.model.specs.declared.Event.the-variants.{Wake, Suspend, Dispatch, Pr
 use Rattle.model.specs.declared.Outcome.{Outcome}
 use Rattle.model.specs.declared.Answer.{Answer}
 use Rattle.model.specs.declared.Answer.the-variants.{Refused}
-use Rattle.model.specs.declared.Verdict.{Verdict}
-use Rattle.model.specs.declared.Verdict.the-variants as verdict
 use Rattle.model.specs.State.{noTask, taskAt, resourceAt, suspended, owned, executorNumber, served, executorOf}
 use Rattle.model.specs.Sound.{sound}
 use Rattle.model.specs.RuleH.{settled}
-use Rattle.model.specs.Events.{eachServer, woken, slept, rested, phased, recharged, granted, joined, restedEnd, locked, freed, passed, unlocked, withMode, pushed, popped, firstWaiter, changed, acting}
-use Rattle.model.specs.Step.{tests, stateAfter, outcome, attempted, stepped}
+use Rattle.model.specs.Events.{eachServer, woken, slept, rested, phased, recharged, granted, joined, restedEnd, locked, freed, passed, unlocked, withMode, pushed, popped, firstWaiter, changed, acting, numberOf}
+use Rattle.model.specs.Step.{tests, stateAfter, refusing, outcome, attempted, stepped}
 use Rattle.model.specs.Said.{said}
-use Rattle.model.specs.Verdicts.{verdict}
-use Rattle.model.proofs.Refused.{verdict-some}
 use Rattle.model.proofs.RuleH.{settled-served}
 use Rattle.chain.specs.Arrays.{endsOf}
 use Rattle.chain.proofs.Arrays.{ends-same}
@@ -51,13 +47,12 @@ unfolding stepped
 step-sound st e o h q = met st e o (q ∙ rw h)
 
 pub attempt-refused
-    : (st : State) (e : Event) (o : Outcome) (v : Verdict) (n : ℕ)
-    → v ≡ verdict (firstOf (tests st e))
-    → v ≡ verdict.Refused n
-    → o ≡ record { answer = Refused n; state = st }
-    → o ≡ attempted st e
+    : (st : State) (e : Event) (a : Answer) (n : ℕ)
+    → firstOf (tests st e) ≡ some n
+    → a ≡ refusing (taskAt st (numberOf e) .mode) n
+    → record { answer = a; state = st } ≡ attempted st e
 unfolding attempted
-attempt-refused st e o v n h r q = q ∙ ap (λ x. outcome x st e) (sym (verdict-some (firstOf (tests st e)) n (sym h ∙ r)))
+attempt-refused st e a n h q = (λ i. record { answer = q i; state = st }) ∙ ap (λ x. outcome x st e) (sym h)
 
 pub attempt-taken : (st : State) (e : Event) (o : Outcome) → Clear st e → o ≡ outcome none st e → o ≡ attempted st e
 unfolding attempted

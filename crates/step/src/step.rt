@@ -33,7 +33,10 @@ pub fn attempted(st: State, e: Event) -> Outcome
 {
     let verdict = events::event::refusal(st, e);
     if let Verdict::Refused(n) = verdict {
-        return model::builders::refused(st, n);
+        return Outcome {
+            answer: events::event::refusing(st, e, n),
+            state: st,
+        };
     }
     taken(st, e)
 }

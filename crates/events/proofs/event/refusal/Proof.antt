@@ -4,7 +4,8 @@ use mathlib.Core.Bool.{true, _||_}
 use borrow.Author.Needs.{needs}
 use Rattle.laws.specs.Tests.{firstOf}
 use Rattle.model.specs.State.{inUse, here, present, executing}
-use Rattle.events.specs.Computed.{numberOf, elapses}
+use Rattle.model.specs.Events.{numberOf}
+use Rattle.events.specs.Computed.{elapses}
 use Rattle.events.proofs.Refusals.{told-no, told-yes, used-below, unnamed, last-test}
 use Rattle.events.proofs.event.refusal.Statement.{statement}
 use Rattle.events.proofs.event.refusal.Tie as tie
@@ -91,7 +92,7 @@ refusal-spec =
     rw (told, (rw told at (used (c .before .before .before .before .before .before)))) (last-test 5 _ _ _ (c .wake-refusal .ensures) refl))
     (λ c.
     let told = c .before .before .before .before .e2 .given .1 in
-    rw (told, (rw told at (used (c .before .before .before .before .before .before)))) (last-test 6 _ _ _ (c .suspend-refusal .ensures) refl))
+    rw (told, (rw told at (used (c .before .before .before .before .before .before)))) (c .stall .ensures))
     (λ c. rw (c .before .before .before .before .e3 .given .1) (c .dispatch-refusal .ensures))
     (λ c.
     let told = c .before .before .before .before .e4 .given .1 in
