@@ -16,6 +16,6 @@ pub use Rattle.model.specs.declared.State.{State}
 pub use Rattle.model.specs.declared.Event.{Event}
 pub use Rattle.model.specs.declared.Event.the-variants.{Wake, Suspend, Dispatch, Preempt, Elapse, Recharge, Lock, Unlock}
 pub use Rattle.model.specs.declared.Answer.{Answer}
-pub use Rattle.model.specs.declared.Answer.the-variants.{Ok}
+pub use Rattle.model.specs.declared.Answer.the-variants.{Ok, RefusedWaiting}
 pub use Rattle.model.specs.declared.Outcome.{Outcome}
 pub use Rattle.model.specs.declared.Table.{Table}

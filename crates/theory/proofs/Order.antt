@@ -17,10 +17,10 @@ use Rattle.reordering.specs.Machine.{Laws, Local}
 use Rattle.reordering.specs.Place.{Matching}
 use Rattle.reordering.specs.Run.{after, log, Each, Never}
 use Rattle.reordering.proofs.Answer.{reorder-places}
-use Rattle.theory.proofs.Declared.{State, Event, Wake, Suspend, Dispatch, Preempt, Elapse, Recharge, Lock, Unlock, Ok, Answer, Outcome, Table}
-use Rattle.model.specs.State.{resourceAt, here, present, declares, owned, ownerNo, places, served, noServer, noTask, noResource, nobody, inSet}
-use Rattle.model.specs.Step.{tests, endsAt, topOf, answered, stateAfter, outcome, stepped, free, move}
-use Rattle.model.specs.Events.{wakes, rests, runsOut}
+use Rattle.theory.proofs.Declared.{Task, State, Event, Wake, Suspend, Dispatch, Preempt, Elapse, Recharge, Lock, Unlock, Ok, RefusedWaiting, Answer, Outcome, Table}
+use Rattle.model.specs.State.{taskAt, resourceAt, awaited, here, present, declares, owned, ownerNo, places, served, noServer, noTask, noResource, nobody, inSet}
+use Rattle.model.specs.Step.{tests, endsAt, topOf, answered, stateAfter, refusing, outcome, stepped, free, move}
+use Rattle.model.specs.Events.{wakes, rests, runsOut, numberOf}
 use Rattle.model.specs.Sound.{sound}
 use Rattle.model.specs.Shape.{Shaped}
 use Rattle.model.specs.Fresh.{freshRefusal, freshState}
@@ -30,7 +30,7 @@ use Rattle.model.proofs.Chain.{here-below}
 use Rattle.model.proofs.Sound.{sound-facts}
 use Rattle.fresh.proofs.Fresh.{fresh-sound, fresh-shaped}
 use Rattle.theory.specs.Runs.{refusedBy}
-use Rattle.theory.proofs.Agreement.{Labels, Agree, Homed, here-same, present-same, executing-same, executes-same, served-same, served-home, Good, good-home, agree-sym, agree-trans, Fits, good-self}
+use Rattle.theory.proofs.Agreement.{Labels, Agree, Homed, here-same, present-same, executes-same, served-same, served-home, Good, good-home, agree-sym, agree-trans, Fits, good-self}
 use Rattle.theory.proofs.Locality.{kindBy, lock-label, unlock-label, owned-label, wakes-same, rests-same, after-same, after-left}
 use Rattle.theory.proofs.Groups.{fact-shares, linked-group}
 use Rattle.theory.proofs.Outcomes.{stepped-sound, stepped-free, outcome-has, outcome-not, no-test-1}
@@ -85,7 +85,7 @@ module _ (l : Labels) (g : ℕ) (s u : State) (a : Agree l g s u) (good : Good l
       (declares s t r)
       (λ d.
       let k : l .of-resource r ≡ g = good .fits t r h p d ∙ e in
-      rw (hs t, ps r, executing-same l g s u a t e, ends-same t r p k, a .task-same .entry t e, a .resource-same .entry r k) refl)
+      rw (hs t, ps r, ends-same t r p k, a .task-same .entry t e, a .resource-same .entry r k) refl)
       (λ d. rw (sym (hs t) ∙ h, sym (ps r) ∙ p, h, p, ← (a .task-same .entry t e), d) refl))
       (λ p. rw (sym (hs t) ∙ h, sym (ps r) ∙ p, h, p) refl))
       (λ h. rw (sym (hs t) ∙ h, h) refl)
@@ -103,7 +103,7 @@ module _ (l : Labels) (g : ℕ) (s u : State) (a : Agree l g s u) (good : Good l
   unlock-same t r e =
       split
       (eqb (l .of-resource r) g)
-      (λ y. rw (hs t, ps r, executing-same l g s u a t e, a .task-same .entry t e, a .resource-same .entry r (eqb-true _ g y)) refl)
+      (λ y. rw (hs t, ps r, a .task-same .entry t e, a .resource-same .entry r (eqb-true _ g y)) refl)
       (λ n.
       split
       (here s t)
@@ -112,14 +112,14 @@ module _ (l : Labels) (g : ℕ) (s u : State) (a : Agree l g s u) (good : Good l
       (present s r)
       (λ p.
       let o = unowned t r e h p (eqb-false _ g n) in
-      rw (hs t, ps r, executing-same l g s u a t e, o .0, o .1) refl)
+      rw (hs t, ps r, a .task-same .entry t e, o .0, o .1) refl)
       (λ p. rw (sym (hs t) ∙ h, sym (ps r) ∙ p, h, p) refl))
       (λ h. rw (sym (hs t) ∙ h, h) refl))
 
   pub verdict-same : (e : Event) → kindBy l e ≡ group g → verdict s e ≡ verdict u e
   unfolding verdict firstOf without
   verdict-same (Wake t) k = rw (hs (t .0), a .task-same .entry (t .0) (group-inj k)) refl
-  verdict-same (Suspend t) k = rw (hs (t .0), executing-same l g s u a (t .0) (group-inj k)) refl
+  verdict-same (Suspend t) k = rw (hs (t .0), a .task-same .entry (t .0) (group-inj k)) refl
   verdict-same (Dispatch x) k = rw (hs (x .0), a .server-same .entry (x .0) (group-inj k)) refl
   verdict-same (Preempt x) k = rw (hs (x .0), a .server-same .entry (x .0) (group-inj k)) refl
   verdict-same (Elapse n) k = absurd (time-group k)
@@ -146,16 +146,31 @@ module _ (l : Labels) (g : ℕ) (s u : State) (a : Agree l g s u) (good : Good l
       rw (a .resource-same .entry r (lock-label l s good t r o ∙ eqb-true _ g k), served-same l g v w b later (t .0) (eqb-true _ g k)) refl
   answered-same v w b later (Unlock t r) k o counts = rw (a .resource-same .entry r (unlock-label l s good t r o ∙ eqb-true _ g k)) refl
 
+  -- the task that an event names is as it is, and so is what it awaits
+  named-same : (e : Event) → kindBy l e ≡ group g → taskAt s (numberOf e) ≡ taskAt u (numberOf e)
+  named-same (Wake t) k = a .task-same .entry (t .0) (group-inj k)
+  named-same (Suspend t) k = a .task-same .entry (t .0) (group-inj k)
+  named-same (Dispatch x) k = a .task-same .entry (x .0) (group-inj k)
+  named-same (Preempt x) k = a .task-same .entry (x .0) (group-inj k)
+  named-same (Elapse n) k = absurd (time-group k)
+  named-same (Recharge x) k = a .task-same .entry (x .0) (group-inj k)
+  named-same (Lock t r) k = a .task-same .entry (t .0) (group-inj k)
+  named-same (Unlock t r) k = a .task-same .entry (t .0) (group-inj k)
+
+  refusing-same : (x y : Task) (n : ℕ) → (n ≡ 62 → x ≡ y) → refusing (x .mode) n ≡ refusing (y .mode) n
+  refusing-same x y n same =
+      split (eqb n 62) (λ m. rw m (ap (λ k. RefusedWaiting (awaited (k .mode))) (same (eqb-true n 62 m)))) (λ m. rw m)
+
   -- so one verdict has one outcome
   pub outcome-same
       : (e : Event) → ((n : ℕ) → e ≡ Elapse n → countTo places (runsOut s n) ≡ countTo places (runsOut u n)) → (v : Option ℕ)
-      → (v ≡ none → (sees g (kindBy l e) ≡ true) × Grounds s e × Grounds u e)
+      → (v ≡ none → (sees g (kindBy l e) ≡ true) × Grounds s e × Grounds u e) → (v ≡ some 62 → taskAt s (numberOf e) ≡ taskAt u (numberOf e))
       → (outcome v s e .answer ≡ outcome v u e .answer) × Agree l g (outcome v s e .state) (outcome v u e .state)
-  outcome-same e counts none has =
+  outcome-same e counts none has names =
       let o = has refl in
       let b = after-same l g s u a good fine e (o .0) (o .1) (o .2) in
       (answered-same (stateAfter s e) (stateAfter u e) b (good-home l _ (good-after l s e good (o .1))) e (o .0) (o .1) counts, b)
-  outcome-same e counts (some n) has = (refl, a)
+  outcome-same e counts (some n) has names = (refusing-same _ _ n (λ q. names (ap some q)), a)
 
 -- `free` as a pair
 abbrev freely : State → Event → Answer × State
@@ -208,7 +223,8 @@ module _ (l : Labels) where
       let q = verdict-same l g s u a good fine e k in
       rw (← q)
       (outcome-same l g s u a good fine e (λ n p. absurd (time-group (ap (kindBy l) (sym p) ∙ k))) (verdict s e)
-      (λ p. (rw k (eq-eqb g g refl), grounds s e p, grounds u e (sym q ∙ p))))
+      (λ p. (rw k (eq-eqb g g refl), grounds s e p, grounds u e (sym q ∙ p)))
+      (λ p. named-same l g s u a good fine e k))
 
   leaves : (g h : ℕ) (st : State) (e : Event) → kindBy l e ≡ group h → (h ≡ g → ⊥) → Good l st → Agree l g st (free st e .state)
   unfolding free

@@ -2,16 +2,16 @@
 -- state after an accepted event is one on steps by `stepped-has`; so entries past the counts stay (`past-kept`), in a state of any shape, because no
 -- accepted event reaches them. No test has number 1 and no accepted answer refuses, so refusal 1 means an unsound state and nothing else.
 -- Leans on Frames.antt. Assumes nothing.
-use Rattle.theory.proofs.Kit.{_≡_, refl, sym, ap, _∙_, true, false, true≢false, Option, none, some, ⊎-elim, ℕ, eqb, ne-eqb}
+use Rattle.theory.proofs.Kit.{_≡_, refl, sym, ap, _∙_, true, false, Option, none, some, ⊎-elim, ℕ, eqb, eqb-true, ne-eqb}
 use Rattle.laws.specs.Tests.{firstOf, without}
 use Rattle.laws.proofs.Cases.{split, holds-fails, if-no, first-without, without-never}
 use Rattle.laws.proofs.Set.{each-cases}
-use Rattle.theory.proofs.Declared.{State, Event, Wake, Suspend, Dispatch, Preempt, Elapse, Recharge, Lock, Unlock}
+use Rattle.theory.proofs.Declared.{Mode, State, Event, Wake, Suspend, Dispatch, Preempt, Elapse, Recharge, Lock, Unlock}
 use Rattle.model.specs.State.{places, noTask, serverAt, taskAt, resourceAt, here, present, owned, executes}
 use Rattle.model.specs.Sound.{sound}
 use Rattle.model.specs.RuleH.{settledTask, settled}
-use Rattle.model.specs.Events.{changed, acting}
-use Rattle.model.specs.Step.{tests, answered, stateAfter, outcome, attempted, stepped, free}
+use Rattle.model.specs.Events.{changed, acting, numberOf}
+use Rattle.model.specs.Step.{tests, answered, stateAfter, refusing, outcome, attempted, stepped, free}
 use Rattle.model.specs.Said.{isRefused}
 use Rattle.model.proofs.Grounds.{Grounds, grounds, unrefused-free}
 use Rattle.model.proofs.Sound.{Loose, sound-facts}
@@ -45,10 +45,17 @@ stepped-has P st e before after =
     (λ y. rw (stepped-sound st e y) (outcome-has P (firstOf (tests st e)) st e before (after y)))
     (λ n. rw (stepped-unsound st e n) before)
 
+-- an answer that refuses by a number does so, and by that one
+pub refusing-refuses : (mode : Mode) (n : ℕ) → isRefused (refusing mode n) ≡ true
+refusing-refuses mode n = split (eqb n 62) (λ y. rw y) (λ f. rw f)
+
+pub refusing-by : (mode : Mode) (n m : ℕ) → refusedBy m (refusing mode n) ≡ eqb n m
+refusing-by mode n m = split (eqb n 62) (λ y. rw y (rw (eqb-true n 62 y) refl)) (λ f. rw f)
+
 -- an accepted event passed every test
 pub goes-none : (x : Option ℕ) (st : State) (e : Event) → isRefused (outcome x st e .answer) ≡ false → x ≡ none
 goes-none none st e g = refl
-goes-none (some n) st e g = absurd (true≢false g)
+goes-none (some n) st e g = holds-fails (refusing-refuses (taskAt st (numberOf e) .mode) n) g
 
 -- no test has number 1,
 pub no-test-1 : (st : State) (e : Event) → firstOf (tests st e) ≡ some 1 → ⊥
@@ -63,20 +70,20 @@ no-test-1 st (Lock t r) h = without-never 1 (tests st (Lock t r)) h
 no-test-1 st (Unlock t r) h = without-never 1 (tests st (Unlock t r)) h
 
 -- and an accepted event's answer refuses nothing
-pub answered-not : (m : ℕ) (st next : State) (e : Event) → refusedBy m (answered st next e) ≡ false
-answered-not m st next (Wake t) = refl
-answered-not m st next (Suspend t) = refl
-answered-not m st next (Dispatch s) = split (executes next (s .0)) (λ y. rw y) (λ n. rw n)
-answered-not m st next (Preempt s) = refl
-answered-not m st next (Elapse n) = refl
-answered-not m st next (Recharge s) = refl
-answered-not m st next (Lock t r) = split (owned (resourceAt st r .owner)) (λ y. rw y) (λ n. rw n)
-answered-not m st next (Unlock t r) = split (eqb (resourceAt st r .waiting) 0) (λ y. rw y) (λ n. rw n)
+pub answered-not : (st next : State) (e : Event) → isRefused (answered st next e) ≡ false
+answered-not st next (Wake t) = refl
+answered-not st next (Suspend t) = refl
+answered-not st next (Dispatch s) = split (executes next (s .0)) (λ y. rw y) (λ n. rw n)
+answered-not st next (Preempt s) = refl
+answered-not st next (Elapse n) = refl
+answered-not st next (Recharge s) = refl
+answered-not st next (Lock t r) = split (owned (resourceAt st r .owner)) (λ y. rw y) (λ n. rw n)
+answered-not st next (Unlock t r) = split (eqb (resourceAt st r .waiting) 0) (λ y. rw y) (λ n. rw n)
 
 -- so what gives no number m is not refused m
 pub outcome-not : (m : ℕ) (x : Option ℕ) (st : State) (e : Event) → (x ≡ some m → ⊥) → refusedBy m (outcome x st e .answer) ≡ false
-outcome-not m none st e n = answered-not m st (stateAfter st e) e
-outcome-not m (some k) st e n = ne-eqb k m (λ q. n (ap some q))
+outcome-not m none st e n = rw (answered-not st (stateAfter st e) e)
+outcome-not m (some k) st e n = refusing-by (taskAt st (numberOf e) .mode) k m ∙ ne-eqb k m (λ q. n (ap some q))
 
 -- what lies past the counts stays
 module _ (st : State) (i : ℕ) where

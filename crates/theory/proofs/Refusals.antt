@@ -1,38 +1,44 @@
 -- A refusal gives the state back, and its number is that of a test, or 1; so it is one of those that are listed for the event. Assumes nothing.
-use Rattle.theory.proofs.Kit.{_≡_, refl, sym, ap, _∙_, Bool, true, false, List, [], _∷_, _⊎_, inl, inr, ⊎-elim, Option, none, some, ℕ, eqb, eq-eqb}
+use Rattle.theory.proofs.Kit.{_≡_, refl, sym, ap, _∙_, Bool, true, false, List, [], _∷_, _⊎_, inl, inr, ⊎-elim, Option, none, some, ℕ, eqb, eqb-true, eq-eqb}
 use Rattle.laws.specs.Tests.{firstOf}
-use Rattle.laws.proofs.Cases.{split, none-some, holds-fails}
+use Rattle.laws.proofs.Cases.{split, none-some, holds-fails, and-left}
 use Rattle.theory.proofs.Declared.{State, Event, Wake, Suspend, Dispatch, Preempt, Elapse, Recharge, Lock, Unlock}
-use Rattle.model.specs.declared.Answer.the-variants.{Refused}
+use Rattle.model.specs.State.{taskAt}
 use Rattle.model.specs.Sound.{sound}
+use Rattle.model.specs.Events.{numberOf}
 use Rattle.model.specs.Step.{tests, stateAfter, outcome, stepped}
 use Rattle.model.specs.Said.{isRefused}
 use Rattle.model.proofs.Sound.{Loose, sound-facts}
 use Rattle.theory.specs.Runs.{refusedBy, numbers, numbersOf, risingFrom, Among}
 use Rattle.model.proofs.Grounds.{Grounds, grounds, unrefused-free}
-use Rattle.theory.proofs.Outcomes.{stepped-sound, answered-not, goes-none}
+use Rattle.theory.proofs.Outcomes.{stepped-sound, stepped-unsound, refusing-by, answered-not, goes-none}
 
-refused-number : (n m : ℕ) → Refused n ≡ Refused m → n ≡ m
-refused-number n m h = cc
-
-outcome-refused : (x : Option ℕ) (st : State) (e : Event) (n : ℕ) → outcome x st e .answer ≡ Refused n → x ≡ some n
-outcome-refused none st e n h = holds-fails (ap (refusedBy n) h ∙ eq-eqb n n refl) (answered-not n st (stateAfter st e) e)
-outcome-refused (some m) st e n h = ap some (refused-number m n h)
+outcome-refused : (x : Option ℕ) (st : State) (e : Event) (n : ℕ) → refusedBy n (outcome x st e .answer) ≡ true → x ≡ some n
+outcome-refused none st e n h = holds-fails (and-left _ _ h) (answered-not st (stateAfter st e) e)
+outcome-refused (some m) st e n h = ap some (eqb-true m n (sym (refusing-by (taskAt st (numberOf e) .mode) m n) ∙ h))
 
 -- why it was refused: the state is not sound, or a test says so
 pub refused-why
-    : (st : State) (e : Event) (n : ℕ) → stepped st e .answer ≡ Refused n
+    : (st : State) (e : Event) (n : ℕ) → refusedBy n (stepped st e .answer) ≡ true
     → ((sound st ≡ false) × (n ≡ 1)) ⊎ ((sound st ≡ true) × (firstOf (tests st e) ≡ some n))
 unfolding stepped
 refused-why st e n h =
     split
     (sound st)
-    (λ y. inr (y, outcome-refused (firstOf (tests st e)) st e n (sym (ap (λ o. o .answer) (stepped-sound st e y)) ∙ h)))
-    (λ f. inl (f, refused-number n 1 (sym (rw f at h))))
+    (λ y. inr (y, outcome-refused (firstOf (tests st e)) st e n (rw (stepped-sound st e y) at h)))
+    (λ f. inl (f, sym (eqb-true 1 n (rw f at h))))
 
-pub refused-same : (st : State) (e : Event) (n : ℕ) → stepped st e .answer ≡ Refused n → stepped st e .state ≡ st
-unfolding stepped
-refused-same st e n h = ⊎-elim (λ f. rw (f .0)) (λ r. rw (stepped-sound st e (r .0), r .1)) (refused-why st e n h)
+-- whatever refuses gives the state back
+outcome-back : (x : Option ℕ) (st : State) (e : Event) → isRefused (outcome x st e .answer) ≡ true → outcome x st e .state ≡ st
+outcome-back none st e h = holds-fails h (answered-not st (stateAfter st e) e)
+outcome-back (some n) st e h = refl
+
+pub refused-same : (st : State) (e : Event) → isRefused (stepped st e .answer) ≡ true → stepped st e .state ≡ st
+refused-same st e h =
+    split
+    (sound st)
+    (λ y. rw (stepped-sound st e y) (outcome-back (firstOf (tests st e)) st e (rw (stepped-sound st e y) at h)))
+    (stepped-unsound st e)
 
 -- an accepted event has its grounds, and the state after it is the one after the change and rule H
 module _ (st : State) (e : Event) (s : sound st ≡ true) (goes : isRefused (stepped st e .answer) ≡ false) where
@@ -91,6 +97,6 @@ listed-rise (Recharge s) = refl
 listed-rise (Lock t r) = refl
 listed-rise (Unlock t r) = refl
 
-pub refused-listed : (st : State) (e : Event) (n : ℕ) → stepped st e .answer ≡ Refused n → Among n (numbers e)
+pub refused-listed : (st : State) (e : Event) (n : ℕ) → refusedBy n (stepped st e .answer) ≡ true → Among n (numbers e)
 refused-listed st e n h =
     rw (← (listed-are st e)) (among-by n (tests st e) (⊎-elim (λ f. inl (f .1)) (λ r. inr (r .1)) (refused-why st e n h)))

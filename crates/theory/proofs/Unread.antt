@@ -12,10 +12,11 @@ use Rattle.theory.proofs.Declared.{State, Event, Wake, Suspend, Dispatc
 use Rattle.model.specs.State.{places, serverAt, taskAt, resourceAt, here, present, declares, served, runningAt, runningFor}
 use Rattle.model.specs.Sound.{clockLimit, each, ifHere, heldAt, queuedAt, sound}
 use Rattle.model.specs.Shape.{Shaped}
-use Rattle.model.specs.Events.{runsOut}
+use Rattle.model.specs.Events.{runsOut, numberOf}
 use Rattle.model.specs.Step.{crowded, affords, tests, stepped}
 use Rattle.model.proofs.Sound.{Loose, sound-facts}
 use Rattle.model.proofs.Grounds.{Grounds, grounds, unrefused-free}
+use Rattle.model.proofs.Stalled.{waits-here}
 use Rattle.theory.proofs.Outcomes.{stepped-has, stepped-sound}
 use Rattle.theory.proofs.Agreement.{Labels, Agree, Homed, agree-sym, here-same, present-same, next-same, served-same, served-in, for-same, Good}
 use Rattle.theory.proofs.Locality.{kindBy}
@@ -189,7 +190,8 @@ module _ (l : Labels) (s u : State) (c : Covers l s) (a : Agree l 0 s u) (shaped
       (outcome-same l 0 s u a good fine e (λ n d. count-ext places (runsOut s n) (runsOut u n) (λ i m. out-both n i)) (firstOf (tests s e))
       (λ h.
       let gs = grounds s e (unrefused-free s e h) in
-      (seen e gs, gs, grounds u e (unrefused-free u e (sym (firsts e) ∙ h)))))
+      (seen e gs, gs, grounds u e (unrefused-free u e (sym (firsts e) ∙ h))))
+      (λ h. a .task-same .entry (numberOf e) (c .task (numberOf e) (waits-here s e h))))
 
 pub unread
     : (l : Labels) (s u : State) → Covers l s → Agree l 0 s u → Shaped s → Shaped u
