@@ -80,7 +80,7 @@ examples = (
   refl and refl and refl and refl and refl and refl and refl and refl and refl and refl and refl and refl and refl and refl and refl and
       refl and refl and refl and refl and refl and refl and refl and refl and refl and refl and refl and refl and refl and refl and refl and
       refl and refl and refl and refl and refl and refl and refl and refl and refl and refl and refl and refl and refl and refl and refl and
-      refl and nothing,
+      refl and refl and refl and refl and refl and refl and refl and refl and refl and refl and nothing,
   refl and refl and refl and refl and refl and refl and refl and refl and refl and refl and refl and refl and refl and refl and refl and
       refl and refl and refl and refl and refl and refl and refl and refl and refl and refl and refl and refl and refl and refl and refl and
       refl and refl and refl and refl and refl and refl and refl and refl and refl and refl and refl and refl and refl and refl and refl and
@@ -90,7 +90,7 @@ examples = (
   refl and refl and refl and refl and refl and refl and refl and refl and refl and refl and refl and refl and refl and refl and refl and
       refl and refl and refl and refl and refl and refl and refl and refl and refl and refl and refl and refl and refl and refl and refl and
       refl and refl and refl and refl and refl and refl and refl and refl and refl and refl and refl and refl and refl and refl and refl and
-      refl and refl and nothing,
+      refl and refl and refl and nothing,
   refl and refl and refl and refl and refl and refl and refl and refl and refl and refl and refl and refl and refl and refl and nothing,
   refl and refl and refl and refl and nothing,
   (refl, refl, refl),

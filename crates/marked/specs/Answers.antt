@@ -1,4 +1,4 @@
--- What single events answer, on the desk and beside it: refusals 2 to 18, of which the lowest is told where several apply. Assumes nothing.
+-- What single events answer, on the desk and beside it: refusals 2 to 18 and 61 to 63, of which the first is told where several apply. Assumes nothing.
 use mathlib.Core.List.{List, [], _∷_}
 use Prim.Native.Nat.{ℕ}
 use Rattle.model.specs.declared.Phase.the-variants.{Active, Running, Recharging}
@@ -8,7 +8,7 @@ use Rattle.model.specs.declared.Server.{Server}
 use Rattle.model.specs.declared.State.{State}
 use Rattle.model.specs.declared.Event.{Event}
 use Rattle.model.specs.declared.Event.the-variants.{Elapse}
-use Rattle.model.specs.declared.Answer.the-variants.{Ok, Freed, Refused}
+use Rattle.model.specs.declared.Answer.the-variants.{Ok, Freed, Refused, RefusedWaiting}
 use Rattle.model.specs.Events.{withClock, withServer, withTask}
 use Rattle.marked.specs.Trace.{wake, suspend, dispatch, preempt, recharge, lock, unlock, executes, spins}
 use Rattle.marked.specs.Entries.{server, task, resource, by, stateOf}
@@ -53,17 +53,27 @@ answered =
     ∷ refusal (unlock 2 3) 3
     -- not declared, though the task does not execute either; unlock does not test it
     ∷ refusal (lock 2 0) 4
-    ∷ refusal (unlock 2 0) 6
+    ∷ refusal (lock 3 0) 4
+    ∷ refusal (unlock 2 0) 63
     -- awake: ready, executing and waiting
     ∷ refusal (wake 2) 5
     ∷ refusal (wake 0) 5
     ∷ refusal (wake 1) 5
-    -- not executing: ready, waiting, asleep
-    ∷ refusal (suspend 2) 6
-    ∷ refusal (suspend 1) 6
-    ∷ refusal (suspend 3) 6
-    ∷ refusal (lock 1 0) 6
-    ∷ refusal (unlock 2 2) 6
+    -- a task that does not execute does nothing itself: asleep; waiting, with the resource; ready, and no Running server serves it
+    ∷ refusal (suspend 3) 61
+    ∷ refusal (lock 3 2) 61
+    ∷ refusal (unlock 3 2) 61
+    ∷ answers desk (suspend 1) (RefusedWaiting 0)
+    ∷ answers desk (lock 1 0) (RefusedWaiting 0)
+    ∷ answers desk (unlock 1 1) (RefusedWaiting 0)
+    ∷ refusal (suspend 2) 63
+    ∷ refusal (lock 2 2) 63
+    ∷ refusal (unlock 2 2) 63
+    -- the resource that the task itself awaits: neither the event's nor the last one of its chain; before what is held or owned is asked
+    ∷ answers ring (suspend 0) (RefusedWaiting 1)
+    ∷ answers ring (lock 0 0) (RefusedWaiting 1)
+    ∷ answers ring (unlock 0 2) (RefusedWaiting 1)
+    ∷ answers ring (lock 1 0) (RefusedWaiting 2)
     -- not Active, though no processor is free either
     ∷ refusal (dispatch 3) 7
     ∷ refusal (dispatch 0) 7

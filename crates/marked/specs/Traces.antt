@@ -9,6 +9,7 @@ use Rattle.trace.specs.declared.Read.the-variants.{Got, End, Fault}
 use Rattle.trace.specs.Order.{fileLimit}
 use Rattle.marked.specs.Trace.{line, tableOf, wake, suspend, dispatch, preempt, recharge, lock, unlock, countsBytes, entryBytes, eventBytes, traceOf}
 use Rattle.marked.specs.Example.{Example, prints, reads}
+use Rattle.marked.specs.Marked.{tableClosing}
 
 -- a file that is one record, and what is read from it; the next place is the file's end
 abbrev pub holds : List ℕ → ℕ → Record → Example
@@ -80,6 +81,9 @@ traces =
     -- a table and no event; operands past the counts are the event's refusal
     ∷ prints oneTask "end 0\nserver 0 idle 2 0 0 0 0\ntask 0 0\n"
     ∷ prints (oneTask ++ eventBytes (wake 65535)) "1 refused 2\nend 0\nserver 0 idle 2 0 0 0 0\ntask 0 0\n"
+    -- after 62 stands the awaited resource, and nothing after any other number
+    ∷ prints (traceOf tableClosing (wake 0 ∷ dispatch 0 ∷ lock 0 0 ∷ wake 1 ∷ dispatch 1 ∷ lock 1 1 ∷ lock 0 1 ∷ suspend 0 ∷ []))
+    "1 ok 1\n2 executes 0\n3 granted 0\n4 ok 1\n5 executes 1\n6 granted 1\n7 waits 1\n8 refused 62 1\nend 0\nserver 0 running 10 20 0 0 0\nserver 1 running 10 20 0 0 0\ntask 0 0\ntask 1 0\n"
     -- 33: one byte too many; as many as there may be are read
     ∷ prints (replicate (fileLimit + 1) 0) "stop 0 33\n"
     ∷ prints (replicate fileLimit 0) "stop 0 31\n"
