@@ -24,7 +24,7 @@ use Rattle.trace.specs.Reading.{readAt, itemsAfter, itemsFrom, itemsAt, items}
 use Rattle.trace.specs.Order.{Stage, opening, entering, complete, orderRefusal, advanced, fileLimit}
 use Rattle.trace.proofs.Items.{read-moves}
 use Rattle.bytes.specs.Text.{bytes, digits, digitsMost, decimal}
-use Rattle.listing.specs.Text.{field, newline, spelled, phaseWord, fieldMost, phaseMost, shortLineMost, eventLineMost, serverLineMost, endLinesMost}
+use Rattle.listing.specs.Text.{field, following, newline, spelled, phaseWord, fieldMost, phaseMost, shortLineMost, eventLineMost, serverLineMost, endLinesMost}
 use Rattle.listing.specs.Listing.{Progress, beginning, started, continued, eventLine, stopLine, serverText, serverLine, taskText, taskLine, endLines, endText, recordText, readText, itemsText, listing}
 use Rattle.listing.specs.Replay.{roomEach, roomMore, room}
 
@@ -41,6 +41,10 @@ digits-most (suc left) n =
 field-most : (n : ℕ) → length (field n) ≤ fieldMost
 unfolding field bytes decimal
 field-most n = simp length-append (omega (arith, digits-most digitsMost n))
+
+following-most : (o : Option ℕ) → length (following o) ≤ fieldMost
+following-most none = omega arith
+following-most (some n) = field-most n
 
 spelled-most : (w : Word) → length (spelled w) ≤ 8
 unfolding spelled bytes
@@ -63,7 +67,8 @@ phase-most Recharging = omega arith
 event-most : (n : ℕ) (a : Answer) → length (eventLine n a) ≤ eventLineMost
 unfolding eventLine bytes newline decimal
 event-most n a =
-    simp length-append (omega (arith, digits-most digitsMost n, spelled-most (said a .0), field-most (said a .1)))
+    simp length-append
+    (omega (arith, digits-most digitsMost n, spelled-most (said a .0), field-most (said a .1), following-most (said a .2)))
 
 stop-most : (at n : ℕ) → length (stopLine at n) ≤ shortLineMost
 unfolding stopLine bytes newline
@@ -110,7 +115,7 @@ left-over n at = roomEach * (n - at) + roomMore
 
 record-most
     : (rest : Progress → List ℕ) (p : Progress) (at next n : ℕ) (o : Option ℕ) (r : Record)
-    → at + 4 ≤ next → next ≤ n → ((q : Progress) → length (rest q) ≤ left-over n next) → length (recordText rest p at o r) ≤ left-over n at
+    → at + 6 ≤ next → next ≤ n → ((q : Progress) → length (rest q) ≤ left-over n next) → length (recordText rest p at o r) ≤ left-over n at
 record-most rest p at next n (some k) r a b h = omega (arith, stop-most at k)
 record-most rest p at next n none (Counts x y z) a b h = omega (arith, h (started (advanced (p .stage) (Counts x y z))))
 record-most rest p at next n none (Reservation x) a b h = omega (arith, h (started (advanced (p .stage) (Reservation x))))

@@ -21,11 +21,14 @@ use Rattle.trace.specs.declared.Read.the-variants.{Got, End, Fault}
 use Rattle.trace.specs.Reading.{items}
 use Rattle.trace.specs.Order.{Stage, opening, entering, complete, orderRefusal, advanced, fileLimit}
 use Rattle.bytes.specs.Text.{bytes, decimal}
-use Rattle.listing.specs.Text.{field, newline, spelled, phaseWord}
+use Rattle.listing.specs.Text.{field, following, newline, spelled, phaseWord}
 
 -- an event's line: rule 14.1
+abbrev pub answerText : Answer → List ℕ
+answerText a = spelled (said a .0) ++ field (said a .1) ++ following (said a .2)
+
 unfoldable pub eventLine : ℕ → Answer → List ℕ
-eventLine n a = decimal n ++ bytes " " ++ spelled (said a .0) ++ field (said a .1) ++ newline
+eventLine n a = decimal n ++ bytes " " ++ answerText a ++ newline
 
 -- the line at which a listing stops: rule 14.3
 unfoldable pub stopLine : ℕ → ℕ → List ℕ

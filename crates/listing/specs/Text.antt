@@ -1,5 +1,6 @@
 -- Words, fields and lines as bytes (rule 14.5). Assumes nothing.
-use mathlib.Core.List.{List, _++_}
+use mathlib.Core.List.{List, [], _++_}
+use mathlib.Core.Option.{Option, none, some}
 use Prim.Native.Nat.{ℕ, _+_, _*_}
 use Rattle.bytes.specs.Text.{bytes, digitsMost, decimal}
 use Rattle.model.specs.declared.Phase.{Phase}
@@ -24,6 +25,11 @@ spelled passed = bytes "passed"
 spelled freed = bytes "freed"
 spelled refused = bytes "refused"
 
+-- what follows an answer's number, where something does
+abbrev pub following : Option ℕ → List ℕ
+following none = []
+following (some n) = field n
+
 unfoldable pub phaseWord : Phase → List ℕ
 phaseWord Idle = bytes "idle"
 phaseWord Active = bytes "active"
@@ -40,9 +46,9 @@ pairMost = fieldMost + fieldMost
 abbrev pub phaseMost : ℕ
 phaseMost = 10
 
--- an answer's word has at most eight letters
+-- an answer's word has at most eight letters, and at most two numbers stand after it
 abbrev pub answerMost : ℕ
-answerMost = 8 + fieldMost
+answerMost = 8 + pairMost
 
 -- a line of `stop` or `task` and two numbers
 abbrev pub shortLineMost : ℕ

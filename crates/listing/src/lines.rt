@@ -4,9 +4,8 @@ ghost use mathlib.Core.List.{_++_};
 ghost use Prim.Native.Nat.{_+_, _≤_};
 ghost use lib.ListN.{length};
 ghost use Rattle.bytes.specs.Writing.{Wrote};
-ghost use Rattle.model.specs.Said.{said};
-ghost use Rattle.listing.specs.Text.{spelled, field, newline, fieldMost, pairMost, answerMost, shortLineMost, eventLineMost};
-ghost use Rattle.listing.specs.Listing.{eventLine, stopLine};
+ghost use Rattle.listing.specs.Text.{field, newline, fieldMost, pairMost, answerMost, shortLineMost, eventLineMost};
+ghost use Rattle.listing.specs.Listing.{answerText, eventLine, stopLine};
 use bytes::text::put_number;
 use bytes::text::put_text;
 use model::Answer;
@@ -56,10 +55,10 @@ pub fn put_stop(out: &mut [u8], at: usize, offset: usize, number: u16) -> usize
     put_line(out, at, b"stop", offset, number as usize)
 }
 
-// An answer's word and number.
+// An answer's word and number, and what follows.
 fn put_answer(out: &mut [u8], at: usize, answer: Answer) -> usize
     requires { ⌜ at + answerMost ≤ length (now out) ⌝ }
-    ensures { λ r. ⌜ Wrote answerMost (now (out .entry)) at (spelled (said answer .0) ++ field (said answer .1)) (now (out .exit)) r ⌝ }
+    ensures { λ r. ⌜ Wrote answerMost (now (out .entry)) at (answerText answer) (now (out .exit)) r ⌝ }
 {
     match answer {
         Answer::Ok(n) => put_named(out, at, b"ok", n as usize),
@@ -70,6 +69,10 @@ fn put_answer(out: &mut [u8], at: usize, answer: Answer) -> usize
         Answer::Passed(t) => put_named(out, at, b"passed", t.0 as usize),
         Answer::Freed(r) => put_named(out, at, b"freed", r as usize),
         Answer::Refused(n) => put_named(out, at, b"refused", n as usize),
+        Answer::RefusedWaiting(r) => {
+            let next = put_text(out, at, b"refused");
+            put_pair(out, next, 62, r as usize)
+        }
     }
 }
 

@@ -1,5 +1,5 @@
 -- The length of a kind's body, by bands of kinds, and which kinds have one. Assumes nothing.
-use mathlib.Core.Path.{_≡_}
+use mathlib.Core.Path.{_≡_, refl}
 use mathlib.Core.Bool.{Bool, true, false, _&&_, _||_}
 use Prim.Native.Nat.{ℕ, _≤_, _<_}
 use native.Mathlib.Omega.{arith}
@@ -72,6 +72,18 @@ body-most k =
     (at-most (eqb k 5 || (leb 7 k && leb k 8)) 4 _ (omega arith)
     (at-most (eqb k 16) 6 _ (omega arith) (at-most (eqb k 17) 10 0 (omega arith) (omega arith))))
 
+-- and, where its kind is known, two or more
+at-least : (b : Bool) (x y : ℕ) → 2 ≤ x → ((y ≡ 0 → ⊥) → 2 ≤ y) → ((if b then x else y) ≡ 0 → ⊥) → 2 ≤ (if b then x else y)
+at-least true x y h k known = h
+at-least false x y h k known = k known
+
+pub body-least : (k : ℕ) → (bodyLength k ≡ 0 → ⊥) → 2 ≤ bodyLength k
+unfolding bodyLength
+body-least k =
+    at-least ((leb 1 k && leb k 4) || eqb k 6) 2 _ (omega arith)
+    (at-least (eqb k 5 || (leb 7 k && leb k 8)) 4 _ (omega arith)
+    (at-least (eqb k 16) 6 _ (omega arith) (at-least (eqb k 17) 10 0 (omega arith) (λ known. absurd (known refl)))))
+
 -- a known kind that is not the table's is an event's
 pub known-event : (k : ℕ) → (bodyLength k ≡ 0 → ⊥) → (k ≡ 16 → ⊥) → (k ≡ 17 → ⊥) → (1 ≤ k) × (k ≤ 8)
 known-event k known a b =
@@ -79,19 +91,3 @@ known-event k known a b =
     (leb 1 k)
     (λ y. (leb-true 1 k y, split (leb 9 k) (λ z. absurd (known (unknown-high k (leb-true 9 k z) a b))) (λ z. omega (arith, leb-false 9 k z))))
     (λ n. absurd (known (unknown-low k (leb-false 1 k n))))
-
--- an event's kind has two bytes or four, the later ones four
-pub event-body : (k : ℕ) → 1 ≤ k → k ≤ 8 → 2 ≤ bodyLength k
-event-body k a b =
-    split
-    (leb 7 k)
-    (λ y. omega (arith, two-operands k (leb-true 7 k y) b))
-    (λ n.
-    split
-    (leb k 4)
-    (λ y. omega (arith, one-operand k a (leb-true k 4 y)))
-    (λ m.
-    split
-    (eqb k 5)
-    (λ y. omega (arith, elapse-body k (eqb-true k 5 y)))
-    (λ l. omega (arith, recharge-body k (omega (arith, leb-false 7 k n, leb-false k 4 m, eqb-false k 5 l))))))

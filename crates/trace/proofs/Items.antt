@@ -1,13 +1,13 @@
--- Laws of reading: a record that is read lies within the file and moves the place on by four bytes or more, so the fuel of `items` never cuts a file
+-- Laws of reading: a record that is read lies within the file and moves the place on by six bytes or more, so the fuel of `items` never cuts a file
 -- short (`items-is`). Assumes nothing.
 use mathlib.Core.Path.{_≡_, refl, sym, ap}
 use mathlib.Core.List.{List, _∷_}
 use mathlib.Core.Option.{Option, none, some}
 use Prim.Native.Nat.{ℕ, zero, suc, _+_, _-_, _<_, _≤_}
 use native.Mathlib.Omega.{arith}
-use lib.Dec.{ltb, leb}
+use lib.Dec.{ltb, leb, eqb}
 use lib.ListN.{length}
-use borrow.Author.Tests.{ltb-false}
+use borrow.Author.Tests.{ltb-false, eqb-true, eqb-false}
 use Rattle.laws.specs.Tests.{firstOf}
 use Rattle.laws.proofs.Cases.{split, none-some}
 use Rattle.trace.specs.declared.Place.{Place}
@@ -15,10 +15,11 @@ use Rattle.trace.specs.declared.Record.{Record}
 use Rattle.trace.specs.declared.Read.{Read}
 use Rattle.trace.specs.declared.Read.the-variants.{Got, End, Fault}
 use Rattle.bytes.specs.Numbers.{twoBytes}
-use Rattle.trace.specs.Reading.{readFault, readBy, readAt, itemsAfter, itemsFrom, itemsAt}
+use Rattle.trace.specs.Reading.{bodyLength, readFault, readBy, readAt, itemsAfter, itemsFrom, itemsAt}
+use Rattle.trace.proofs.Bodies.{body-least}
 
--- what is not cut is longer than its kind and shorter than the file
-whole : (file : List ℕ) (at : ℕ) → readFault file at ≡ none → (2 ≤ twoBytes file at) × (twoBytes file at ≤ length file - at - 2) × (2 ≤ length file - at)
+-- what is read has a known kind's length, and lies within the file
+whole : (file : List ℕ) (at : ℕ) → readFault file at ≡ none → (4 ≤ twoBytes file at) × (twoBytes file at ≤ length file - at - 2) × (2 ≤ length file - at)
 unfolding readFault firstOf
 whole file at e =
     split
@@ -32,18 +33,29 @@ whole file at e =
     split
     (ltb (length file - at - 2) (twoBytes file at))
     (λ y. none-some (sym (rw (a, b, y) at e)))
-    (λ c. (ltb-false _ _ b, ltb-false _ _ c, ltb-false _ _ a))))
+    (λ c.
+    split
+    (eqb (bodyLength (twoBytes file (at + 2))) 0)
+    (λ y. none-some (sym (rw (a, b, c, y) at e)))
+    (λ d.
+    split
+    (eqb (bodyLength (twoBytes file (at + 2)) + 2) (twoBytes file at))
+    (λ y.
+    let body : 2 ≤ bodyLength (twoBytes file (at + 2)) = body-least (twoBytes file (at + 2)) (eqb-false _ _ d) in
+    let sized : bodyLength (twoBytes file (at + 2)) + 2 ≡ twoBytes file at = eqb-true _ _ y in
+    (omega arith, ltb-false _ _ c, ltb-false _ _ a))
+    (λ f. none-some (sym (rw (a, b, c, d, f) at e)))))))
 
 got-by
     : (file : List ℕ) (at : ℕ) (f : Option ℕ) (r : Record) (p : Place)
-    → readFault file at ≡ f → readBy f file at ≡ Got r p → (at + 4 ≤ p .at) × (p .at ≤ length file)
+    → readFault file at ≡ f → readBy f file at ≡ Got r p → (at + 6 ≤ p .at) × (p .at ≤ length file)
 got-by file at none r p e g =
     let w = whole file at e in
     let moved : p .at ≡ at + 2 + twoBytes file at = cc in
     (omega arith, omega arith)
 got-by file at (some n) r p e g = let z : _≡_ {A = ℕ} 0 1 = cc in absurd (omega arith)
 
-pub read-moves : (file : List ℕ) (at : ℕ) (r : Record) (p : Place) → readAt file at ≡ Got r p → (at + 4 ≤ p .at) × (p .at ≤ length file)
+pub read-moves : (file : List ℕ) (at : ℕ) (r : Record) (p : Place) → readAt file at ≡ Got r p → (at + 6 ≤ p .at) × (p .at ≤ length file)
 unfolding readAt
 read-moves file at r p g =
     split

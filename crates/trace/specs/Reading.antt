@@ -84,7 +84,7 @@ readBy (some n) file at = Fault n
 unfoldable pub readAt : List ℕ → ℕ → Read
 readAt file at = if leb (length file) at then End else readBy (readFault file at) file at
 
--- what a file holds from a place on: each reading with its offset, up to the file's end or its first fault. A record is 4 bytes or longer,
+-- what a file holds from a place on: each reading with its offset, up to the file's end or its first fault. A record is 6 bytes or longer,
 -- so that the file's length is fuel enough (law `items-is`).
 abbrev pub itemsAfter : (ℕ → List (ℕ × Read)) → Read → List (ℕ × Read)
 itemsAfter rest (Got r p) = rest (p .at)

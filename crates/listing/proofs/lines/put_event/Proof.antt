@@ -3,7 +3,7 @@ use borrow.Author.Needs.{needs}
 use Rattle.bytes.specs.Text.{bytes}
 use Rattle.listing.specs.Text.{newline}
 use Rattle.listing.specs.Listing.{eventLine}
-use Rattle.bytes.proofs.Writing.{wrote-then, wrote-pair}
+use Rattle.bytes.proofs.Writing.{wrote-then}
 use Rattle.listing.proofs.lines.put_event.Statement.{statement}
 use Rattle.listing.proofs.lines.put_event.Tie as tie
 
@@ -19,4 +19,4 @@ put-event-spec =
     let answer = line-end .before .before .before .before .before in
     let space = answer .before .before .before .before in
     let number = space .before .before .before .before .before in
-    wrote-then (wrote-pair _ _ _ (wrote-then (number .put-number .ensures) (space .put-text .ensures)) (answer .put-answer .ensures)) (line-end .put-text2 .ensures)))
+    wrote-then (wrote-then (wrote-then (number .put-number .ensures) (space .put-text .ensures)) (answer .put-answer .ensures)) (line-end .put-text2 .ensures)))

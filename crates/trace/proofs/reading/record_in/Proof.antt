@@ -2,7 +2,7 @@
 use borrow.Author.Needs.{needs}
 use native.Mathlib.Omega.{arith}
 use Rattle.trace.specs.Reading.{recordIn}
-use Rattle.trace.proofs.Bodies.{two-operands, elapse-body, counts-body, reservation-body, known-event, event-body}
+use Rattle.trace.proofs.Bodies.{two-operands, elapse-body, counts-body, reservation-body, body-least, known-event}
 use Rattle.trace.proofs.Operands.{elapse-record, pair-record, one-record}
 use Rattle.trace.proofs.reading.record_in.Statement.{statement}
 use Rattle.trace.proofs.reading.record_in.Tie as tie
@@ -36,10 +36,7 @@ elapse-returned : tie.Need-returns-3
 elapse-returned c = elapse-record _ _ _ _ _ (c .before .before .if3 .taken) (c .before .four-bytes .ensures) (c .event-of .ensures)
 
 number : tie.Need-two-bytes-requires-4
-number c κs =
-    let start = c .before .before .before .before in
-    let event = known-event (start .args .kind) (start .pre .1) (c .before .before .if1 .left) (c .before .if2 .left) in
-    omega (arith, event-body (start .args .kind) (event .0) (event .1))
+number c κs = let start = c .before .before .before .before in omega (arith, body-least (start .args .kind) (start .pre .1))
 
 one-returned : tie.Need-returns-4
 one-returned c =
