@@ -6,7 +6,9 @@
 static const char *const words[] = {"ok", "executes", "spins", "granted", "waits", "passed", "freed", "refused"};
 
 static void told(const char *what, uint64_t answer) {
-    printf("%s: %s %u\n", what, words[vesztamor_word_of(answer)], (unsigned)vesztamor_number_of(answer));
+    printf("%s: %s %u", what, words[vesztamor_word_of(answer)], (unsigned)vesztamor_number_of(answer));
+    if (vesztamor_follows(answer)) printf(" %u", (unsigned)vesztamor_further_of(answer));
+    printf("\n");
 }
 
 static void metered(const uint8_t *rows, size_t server) {
@@ -22,12 +24,22 @@ int main(void) {
     static uint8_t state[VESZTAMOR_STATE_BYTES], rows[VESZTAMOR_ROWS_BYTES(2)];
     const size_t length = sizeof state;
 
+    if (vesztamor_layout() != VESZTAMOR_LAYOUT) {
+        printf("the library has layout %u, this program layout %u\n", (unsigned)vesztamor_layout(), (unsigned)VESZTAMOR_LAYOUT);
+        return 2;
+    }
     told("fresh", vesztamor_fresh(table, sizeof table, state, length));
+    /* suspended, 61: it has to be woken first */
+    told("lock 0 0", vesztamor_step(state, length, VESZTAMOR_LOCK, 0, 0, 0));
     told("wake 0", vesztamor_step(state, length, VESZTAMOR_WAKE, 0, 0, 0));
     told("wake 1", vesztamor_step(state, length, VESZTAMOR_WAKE, 1, 0, 0));
+    /* served by no Running server, 63: one has to be dispatched first */
+    told("lock 0 0", vesztamor_step(state, length, VESZTAMOR_LOCK, 0, 0, 0));
     told("dispatch 0", vesztamor_step(state, length, VESZTAMOR_DISPATCH, 0, 0, 0));
     told("lock 0 0", vesztamor_step(state, length, VESZTAMOR_LOCK, 0, 0, 0));
     told("dispatch 1", vesztamor_step(state, length, VESZTAMOR_DISPATCH, 1, 0, 0));
+    told("lock 1 0", vesztamor_step(state, length, VESZTAMOR_LOCK, 1, 0, 0));
+    /* waiting, 62, and for which resource: it owns that one when its turn has come, so there is nothing to ask again */
     told("lock 1 0", vesztamor_step(state, length, VESZTAMOR_LOCK, 1, 0, 0));
     told("elapse 3", vesztamor_step(state, length, VESZTAMOR_ELAPSE, 0, 0, 3));
     told("server 0", vesztamor_executing(state, length, 0));

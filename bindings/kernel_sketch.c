@@ -6,7 +6,7 @@
  * dose record, which is made of meter rows. The incident was a dose meter that ran in two servers at once, each of which wrote the same ticks down:
  * here every tick is held to the clock, and one that is counted twice ends the program with status 1. `kernel_sketch twice` counts so on purpose.
  *
- * It assumes nothing of the library but its header; an event that is refused ends it with status 2. */
+ * It assumes nothing of the library but its header; another layout, and an event that is refused, end it with status 2. */
 #include <stdbool.h>
 #include <stdio.h>
 #include <stdlib.h>
@@ -109,6 +109,7 @@ static void event(enum vesztamor_kind kind, unsigned number, unsigned resource, 
     const uint64_t answer = vesztamor_step(locked_state(), sizeof state, (uint16_t)kind, (uint16_t)number, (uint16_t)resource, ticks);
     if (vesztamor_word_of(answer) == VESZTAMOR_REFUSED) {
         printf("event %u of %u is refused: %u\n", (unsigned)kind, number, (unsigned)vesztamor_number_of(answer));
+        if (vesztamor_follows(answer)) printf("it waits for resource %u\n", (unsigned)vesztamor_further_of(answer));
         exit(2);
     }
     events[kind]++;
@@ -348,6 +349,7 @@ static void run(unsigned with_cores) {
 
 int main(int count, char **words) {
     counts_twice = count == 2 && strcmp(words[1], "twice") == 0;
+    if (vesztamor_layout() != VESZTAMOR_LAYOUT) stop(2, "the library has another layout than this program");
     run(4);
     printf("\nThe same work where cores are short:\n\n");
     run(2);

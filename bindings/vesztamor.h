@@ -7,10 +7,14 @@
  *
  * A state that several processors share is to be used under one lock of the kernel: take it around each call, and nothing in the library waits.
  *
- * An answer is one number: its word in the upper 32 bits, its number in the lower 32. A refusal writes nothing. */
+ * An answer is one number: its word in bits 56 to 63, its number in bits 0 to 31, and in bits 32 to 55 what follows: 0 where nothing does, else one
+ * more than the number that does. Only refused 62 has one, the resource that the task waits for. A refusal writes nothing.
+ *
+ * Before anything else compare vesztamor_layout() with VESZTAMOR_LAYOUT: a program that was built for another layout reads everything wrongly. */
 #ifndef VESZTAMOR_H
 #define VESZTAMOR_H
 
+#include <stdbool.h>
 #include <stddef.h>
 #include <stdint.h>
 
@@ -18,6 +22,8 @@
 extern "C" {
 #endif
 
+/* the layout that this header is for; it goes up whenever the bytes of a state, a table, a row or an answer change */
+#define VESZTAMOR_LAYOUT 1
 /* the bytes of a state */
 #define VESZTAMOR_STATE_BYTES 1802
 /* the bytes of a table of so many tasks, of a table of so many sections, and of a bound */
@@ -69,7 +75,6 @@ enum vesztamor_refusal {
     VESZTAMOR_NO_SUCH_RESOURCE = 3,
     VESZTAMOR_UNDECLARED = 4,
     VESZTAMOR_NOT_SUSPENDED = 5,
-    VESZTAMOR_NOT_EXECUTING = 6,
     VESZTAMOR_NOT_ACTIVE = 7,
     VESZTAMOR_NO_PROCESSOR = 8,
     VESZTAMOR_NOT_RUNNING = 9,
@@ -96,11 +101,18 @@ enum vesztamor_refusal {
     VESZTAMOR_CHILDREN_TOO_LONG = 43,
     VESZTAMOR_NO_SUCH_BOUND_TASK = 44,
     VESZTAMOR_BAD_ALLOWANCE = 45,
-    VESZTAMOR_ALLOWANCE_SPENT = 46
+    VESZTAMOR_ALLOWANCE_SPENT = 46,
+    VESZTAMOR_SUSPENDED = 61,
+    VESZTAMOR_WAITING = 62,
+    VESZTAMOR_NOT_SERVED = 63
 };
 
-static inline uint32_t vesztamor_word_of(uint64_t answer) { return (uint32_t)(answer >> 32); }
+static inline uint32_t vesztamor_word_of(uint64_t answer) { return (uint32_t)(answer >> 56); }
 static inline uint32_t vesztamor_number_of(uint64_t answer) { return (uint32_t)answer; }
+
+/* Whether a number follows, and that number: UINT32_MAX, which no answer has, where none does. */
+static inline bool vesztamor_follows(uint64_t answer) { return (answer >> 32 & 0xffffff) != 0; }
+static inline uint32_t vesztamor_further_of(uint64_t answer) { return (uint32_t)(answer >> 32 & 0xffffff) - 1; }
 
 /* One server's meter row, out of its bytes. */
 struct vesztamor_row {
@@ -123,6 +135,9 @@ static inline struct vesztamor_row vesztamor_row_of(const uint8_t *rows, size_t 
     return row;
 }
 
+/* The layout that the library is built for, a plain number whatever the layout of answers is. */
+uint64_t vesztamor_layout(void);
+
 /* The fresh state of a table: ok 0. Refused 0: state has not VESZTAMOR_STATE_BYTES bytes; 19: counts, or the table's length; 20, 21. */
 uint64_t vesztamor_fresh(const uint8_t *table, size_t table_length, uint8_t *state, size_t state_length);
 
@@ -130,7 +145,8 @@ uint64_t vesztamor_fresh(const uint8_t *table, size_t table_length, uint8_t *sta
 uint64_t vesztamor_is_sound(const uint8_t *state, size_t state_length);
 
 /* One event. number is the task's or the server's, resource a lock's or an unlock's, ticks an elapse's; an event looks at its own operands alone.
- * Refused 1: no state, or none that is sound; 31: no such kind; else as docs/REFUSALS.md has it. Bytes past the counts stay. */
+ * Refused 1: no state, or none that is sound; 31: no such kind; else as docs/REFUSALS.md has it, and after 62 the resource that the task waits for.
+ * Bytes past the counts stay. */
 uint64_t vesztamor_step(uint8_t *state, size_t state_length, uint16_t kind, uint16_t number, uint16_t resource, uint32_t ticks);
 
 /* What a server is doing: executes or spins, and the task; ok 0 where it is not Running or there is no such server. Refused 1: no state. */

@@ -1,9 +1,12 @@
 //! A safe wrapper over the static library (`rt staticlib vesztamor`). The proved functions take any bytes and any numbers, so nothing is tested here:
-//! the wrapper only turns slices into pointers and lengths, and answers back into words. Layouts: `docs/STATE.md`.
+//! the wrapper only turns slices into pointers and lengths, and answers back into words. Layouts: `docs/STATE.md`. A program compares [`layout`] with
+//! [`LAYOUT`] once, before anything else.
 //!
 //! A [`State`] is plain bytes. Where several processors share one, keep it behind one lock (a `Mutex<State>`, or the kernel's own): the library keeps
 //! nothing between calls and waits for nothing.
 
+/// The layout that this wrapper is for. It goes up whenever the bytes of a state, a table, a row or an answer change.
+pub const LAYOUT: u64 = 1;
 /// The bytes of a state.
 pub const STATE_BYTES: usize = 1802;
 /// The bytes of a bound: the bound in eight, the weighings in four.
@@ -15,6 +18,7 @@ const MOST_ROWS: usize = 16;
 
 mod library {
     extern "C" {
+        pub fn vesztamor_layout() -> u64;
         pub fn vesztamor_fresh(
             table: *const u8,
             table_length: usize,
@@ -54,7 +58,7 @@ mod library {
     }
 }
 
-/// What a call answers: a word and its number (rule 10.1).
+/// What a call answers: a word and its number (rule 10.1), and what follows where something does.
 #[derive(Clone, Copy, Debug, PartialEq, Eq, Hash)]
 pub enum Answer {
     Ok(u32),
@@ -65,21 +69,27 @@ pub enum Answer {
     Passed(u32),
     Freed(u32),
     Refused(u32),
+    /// Refused with 62: the task waits for this resource.
+    RefusedWaiting(u32),
 }
 
 impl Answer {
-    /// The answer that a packed number stands for.
+    /// The answer that a packed number stands for: its word in bits 56 to 63, its number in bits 0 to 31, and between them 0, or one more than the
+    /// number that follows. Panics on a number that the library never answers.
     pub fn of(packed: u64) -> Answer {
         let number = packed as u32;
-        match packed >> 32 {
-            0 => Answer::Ok(number),
-            1 => Answer::Executes(number),
-            2 => Answer::Spins(number),
-            3 => Answer::Granted(number),
-            4 => Answer::Waits(number),
-            5 => Answer::Passed(number),
-            6 => Answer::Freed(number),
-            _ => Answer::Refused(number),
+        let further = (packed >> 32 & 0xff_ffff) as u32;
+        match (packed >> 56, further, number) {
+            (0, 0, _) => Answer::Ok(number),
+            (1, 0, _) => Answer::Executes(number),
+            (2, 0, _) => Answer::Spins(number),
+            (3, 0, _) => Answer::Granted(number),
+            (4, 0, _) => Answer::Waits(number),
+            (5, 0, _) => Answer::Passed(number),
+            (6, 0, _) => Answer::Freed(number),
+            (7, 0, _) => Answer::Refused(number),
+            (7, 1.., 62) => Answer::RefusedWaiting(further - 1),
+            _ => panic!("no answer is packed as {packed:#x}: is the library of another layout?"),
         }
     }
 }
@@ -187,6 +197,11 @@ impl State {
             other => unreachable!("meter answers ok or refused, not {other:?}"),
         }
     }
+}
+
+/// The layout that the library is built for.
+pub fn layout() -> u64 {
+    unsafe { library::vesztamor_layout() }
 }
 
 /// The fresh state of a table, into the bytes lent for it.

@@ -2,6 +2,7 @@
 use std::collections::BTreeMap;
 use std::fs;
 use std::path::{Path, PathBuf};
+use vesztamor::Answer;
 
 type Numbers = BTreeMap<String, u64>;
 
@@ -122,16 +123,38 @@ fn room_for_a_text_is_that_of_the_source() {
 }
 
 #[test]
+fn the_layout_is_that_of_the_source_and_of_the_library() {
+    assert_eq!(
+        constants("crates/vesztamor/src/layouts.rt")["LAYOUT"],
+        vesztamor::LAYOUT
+    );
+    assert_eq!(defined("VESZTAMOR_LAYOUT"), vesztamor::LAYOUT);
+    assert_eq!(vesztamor::layout(), vesztamor::LAYOUT);
+}
+
+#[test]
 fn words_are_those_of_the_source() {
-    let source = constants("crates/vesztamor/src/answers.rt");
+    let mut source = constants("crates/vesztamor/src/answers.rt");
+    assert_eq!(source.remove("WORD"), Some(1 << 56));
+    let further = source.remove("FURTHER").expect("what follows has a place");
+    let waiting = source.remove("WAITING").expect("62 has a name");
     let words = members("vesztamor_word");
     assert_eq!(words.len(), source.len() + 1);
     assert_eq!(words["OK"], 0);
-    for (word, packed) in source {
-        assert_eq!(words[&word] << 32, packed, "{word}");
+    for (word, packed) in &source {
+        assert_eq!(words[word] << 56, *packed, "{word}");
         assert_eq!(
-            format!("{:?}", vesztamor::Answer::of(packed + 5)).to_uppercase(),
+            format!("{:?}", Answer::of(packed + 5)).to_uppercase(),
             format!("{word}(5)")
+        );
+    }
+    assert_eq!(waiting, members("vesztamor_refusal")["WAITING"]);
+    let refused = source["REFUSED"] + waiting;
+    assert_eq!(Answer::of(refused), Answer::Refused(waiting as u32));
+    for resource in [0, 5, 65535] {
+        assert_eq!(
+            Answer::of(refused + (u64::from(resource) + 1) * further),
+            Answer::RefusedWaiting(resource)
         );
     }
 }

@@ -1,6 +1,7 @@
 //! The library through its wrapper: what each function answers and leaves, refusals among them. Which answer is right is not asked here (the contracts
 //! say it, and the cross-check compares); this shows that the calls arrive and come back whole.
 use std::fs;
+use std::panic::catch_unwind;
 use std::path::Path;
 use vesztamor::{
     bound, executing, fresh_into, is_sound, meter_into, replay, replay_into, step, text_bytes,
@@ -77,6 +78,50 @@ fn a_lock_is_waited_for_and_handed_over() {
         assert!(state.is_sound(), "{event:?}");
     }
     assert_eq!(state.executing(0), Answer::Ok(0));
+}
+
+/// A suspend, a lock of resource 0 and an unlock of it by a task: each gets this answer, and the state stays.
+fn refuses(state: &mut State, task: u16, answer: Answer) {
+    let before = state.clone();
+    for event in [
+        Event::Suspend { task },
+        Event::Lock { task, resource: 0 },
+        Event::Unlock { task, resource: 0 },
+    ] {
+        assert_eq!(state.step(event), answer, "{event:?}");
+        assert!(*state == before, "{event:?}");
+    }
+}
+
+#[test]
+fn a_task_that_cannot_act_is_told_why() {
+    // as `table`, with two resources
+    let line = [10, 0, 0, 0, 100, 0, 0, 0, 3, 0];
+    let mut state = State::fresh(&[&[2, 0, 2, 0, 2, 0][..], &line, &line].concat()).unwrap();
+    refuses(&mut state, 0, Answer::Refused(61));
+    for task in 0..2 {
+        state.step(Event::Wake { task });
+    }
+    refuses(&mut state, 0, Answer::Refused(63));
+    for (number, answer) in [(0, Answer::Granted(1)), (1, Answer::Waits(0))] {
+        state.step(Event::Dispatch { server: number });
+        let lock = Event::Lock {
+            task: number,
+            resource: 1,
+        };
+        assert_eq!(state.step(lock), answer);
+    }
+    refuses(&mut state, 1, Answer::RefusedWaiting(1));
+}
+
+#[test]
+fn a_number_that_is_no_answer_is_not_read_as_one() {
+    for packed in [8 << 56, 1 << 32, 4 << 56 | 1 << 32, 7 << 56 | 1 << 32 | 61] {
+        assert!(
+            catch_unwind(|| Answer::of(packed)).is_err(),
+            "{packed:#x} is read"
+        );
+    }
 }
 
 #[test]

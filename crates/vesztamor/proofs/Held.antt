@@ -42,7 +42,7 @@ module _ (bytes : List ℕ) where
   pub sound-some : (st : State) (r : Bool) → decoded bytes ≡ some st → r ≡ sound st → r ≡ isSoundIn (decoded bytes)
   sound-some st r e s = rw e s
 
-  pub executing-none : (s : ℕ) → decoded bytes ≡ none → (refused, 1) ≡ executingExport bytes s
+  pub executing-none : (s : ℕ) → decoded bytes ≡ none → (refused, 1, none) ≡ executingExport bytes s
   unfolding executingExport
   executing-none s e = rw e
 

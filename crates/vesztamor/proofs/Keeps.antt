@@ -10,7 +10,7 @@ use lib.ListN.{length}
 use Rattle.laws.specs.Tests.{if_then_else_}
 use Rattle.laws.proofs.Cases.{split}
 use Rattle.model.specs.declared.Answer.{Answer}
-use Rattle.model.specs.declared.Answer.the-variants.{Ok, Executes, Spins, Granted, Waits, Passed, Freed, Refused}
+use Rattle.model.specs.declared.Answer.the-variants.{Ok, Executes, Spins, Granted, Waits, Passed, Freed, Refused, RefusedWaiting}
 use Rattle.model.specs.declared.Event.{Event}
 use Rattle.model.specs.declared.FreshAnswer.{FreshAnswer}
 use Rattle.model.specs.declared.FreshAnswer.the-variants as fresh
@@ -53,6 +53,7 @@ told-refused (Waits t) e = let z : _≡_ {A = ℕ} 0 1 = cc in absurd (omega ari
 told-refused (Passed t) e = let z : _≡_ {A = ℕ} 0 1 = cc in absurd (omega arith)
 told-refused (Freed r) e = let z : _≡_ {A = ℕ} 0 1 = cc in absurd (omega arith)
 told-refused (Refused n) e = refl
+told-refused (RefusedWaiting r) e = refl
 
 done-keeps : (o : Outcome) (bytes : List ℕ) → Keeps bytes (stepLeft o bytes)
 done-keeps o bytes e = rw (told-refused (o .answer) e)

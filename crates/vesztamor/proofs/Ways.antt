@@ -16,7 +16,7 @@ use Rattle.model.specs.declared.Outcome.{Outcome}
 use Rattle.model.specs.declared.State.{State}
 use Rattle.model.specs.Fresh.{freshOf}
 use Rattle.model.specs.Step.{stepped}
-use Rattle.model.specs.Said.{Word, ok, refused, said, isRefused}
+use Rattle.model.specs.Said.{ok, refused, Saying, said, isRefused}
 use Rattle.bound.specs.declared.Bounded.{Bounded}
 use Rattle.bound.specs.declared.Bounded.the-variants as bounded
 use Rattle.bound.specs.Answer.{answer}
@@ -33,7 +33,7 @@ use Rattle.vesztamor.specs.Exported.{Exported, refusal, zeros, freshExpo
 
 -- the two clauses of a contract, from what is exported
 pub both
-    : (x : Exported) (said : Word × ℕ) (left : List ℕ) (r : ℕ) (exit : List ℕ)
+    : (x : Exported) (said : Saying) (left : List ℕ) (r : ℕ) (exit : List ℕ)
     → x ≡ record { answer = said; bytes = left } → r ≡ packed said → exit ≡ left → (r ≡ packed (x .answer)) × (exit ≡ x .bytes)
 both x said left r exit e a b = (a ∙ ap (λ y. packed (y .answer)) (sym e), b ∙ ap (λ y. y .bytes) (sym e))
 
@@ -70,7 +70,7 @@ module _ (table bytes : List ℕ) where
     fresh-unread n = rw (eq-eqb (length bytes) imageSize long, n)
 
     module _ (read : isTable table ≡ true) (o : FreshOutcome) (e : o ≡ freshOf (tableIn table)) where
-      pub fresh-made : o .answer ≡ Made → freshExport table bytes ≡ record { answer = (ok, 0); bytes = encoded (o .state) zeros }
+      pub fresh-made : o .answer ≡ Made → freshExport table bytes ≡ record { answer = (ok, 0, none); bytes = encoded (o .state) zeros }
       unfolding freshExport
       fresh-made m = rw (eq-eqb (length bytes) imageSize long, read, ← e, m)
 
@@ -92,7 +92,7 @@ module _ (sections : List ℕ) (task allowance : ℕ) (bytes : List ℕ) where
       pub bound-found
           : (value weighings : ℕ)
           → found ≡ bounded.Bound value weighings
-          → boundExport sections task allowance bytes ≡ record { answer = (ok, boundSize); bytes = boundBytes value weighings }
+          → boundExport sections task allowance bytes ≡ record { answer = (ok, boundSize, none); bytes = boundBytes value weighings }
       unfolding boundExport
       bound-found value weighings m = rw (eq-eqb (length bytes) boundSize long, read, ← e, m)
 
@@ -101,11 +101,11 @@ module _ (sections : List ℕ) (task allowance : ℕ) (bytes : List ℕ) where
       bound-refused n m = rw (eq-eqb (length bytes) boundSize long, read, ← e, m)
 
 module _ (bytes : List ℕ) where
-  pub sound-yes : true ≡ isSoundIn (decoded bytes) → (ok, 0) ≡ soundExport bytes
+  pub sound-yes : true ≡ isSoundIn (decoded bytes) → (ok, 0, none) ≡ soundExport bytes
   unfolding soundExport
   sound-yes e = rw (← e)
 
-  pub sound-no : false ≡ isSoundIn (decoded bytes) → (refused, 1) ≡ soundExport bytes
+  pub sound-no : false ≡ isSoundIn (decoded bytes) → (refused, 1, none) ≡ soundExport bytes
   unfolding soundExport
   sound-no e = rw (← e)
 
@@ -137,10 +137,10 @@ module _ (bytes : List ℕ) (kind number resource ticks : ℕ) where
       step-done n = rw (known, e, ← does, n)
 
 module _ (trace bytes : List ℕ) (r : Replayed) (e : r ≡ replayed trace (length bytes)) where
-  pub replay-written : (n : ℕ) → r ≡ Written n → replayExport trace bytes ≡ record { answer = (ok, n); bytes = bufferAfter trace bytes }
+  pub replay-written : (n : ℕ) → r ≡ Written n → replayExport trace bytes ≡ record { answer = (ok, n, none); bytes = bufferAfter trace bytes }
   unfolding replayExport
   replay-written n m = rw (← e, m)
 
-  pub replay-unfit : r ≡ TooShort → replayExport trace bytes ≡ record { answer = (refused, 0); bytes = bufferAfter trace bytes }
+  pub replay-unfit : r ≡ TooShort → replayExport trace bytes ≡ record { answer = (refused, 0, none); bytes = bufferAfter trace bytes }
   unfolding replayExport
   replay-unfit m = rw (← e, m)

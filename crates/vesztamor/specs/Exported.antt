@@ -15,7 +15,7 @@ use Rattle.model.specs.declared.State.{State}
 use Rattle.model.specs.Sound.{sound}
 use Rattle.model.specs.Step.{stepped}
 use Rattle.model.specs.Fresh.{freshOf}
-use Rattle.model.specs.Said.{Word, ok, refused, said, isRefused}
+use Rattle.model.specs.Said.{ok, refused, Saying, said, isRefused}
 use Rattle.settle.specs.Doing.{doing, saidDoing}
 use Rattle.bound.specs.declared.Bounded.{Bounded}
 use Rattle.bound.specs.declared.Bounded.the-variants as bounded
@@ -27,12 +27,16 @@ use Rattle.image.specs.Encoded.{encoded}
 use Rattle.image.specs.Decoded.{decoded}
 use Rattle.vesztamor.specs.Tables.{isTable, tableIn, isSections, sectionsIn}
 
+-- the number of the layouts, which goes up whenever the bytes of a state, a table, a row or an answer change. It is told as it is, without a word
+abbrev pub layout : ℕ
+layout = 1
+
 pub record Exported : Type 0 where
-  pub answer : Word × ℕ
+  pub answer : Saying
   pub bytes : List ℕ
 
 abbrev pub refusal : ℕ → List ℕ → Exported
-refusal n bytes = record { answer = (refused, n); bytes = bytes }
+refusal n bytes = record { answer = (refused, n, none); bytes = bytes }
 
 unfoldable pub zeros : List ℕ
 zeros = replicate imageSize 0
@@ -40,7 +44,7 @@ zeros = replicate imageSize 0
 -- a fresh state in place of the bytes, written over zeros, so that there is 0 in every byte past its counts (rule 5.3): `ok` and 0. Memory that has not
 -- the length of a state is `refused` and 0; bytes that are no table have wrong counts, 19 (rule 5.4).
 abbrev pub freshLeft : FreshAnswer → State → List ℕ → Exported
-freshLeft fresh.Made st bytes = record { answer = (ok, 0); bytes = encoded st zeros }
+freshLeft fresh.Made st bytes = record { answer = (ok, 0, none); bytes = encoded st zeros }
 freshLeft (fresh.Refused n) st bytes = refusal n bytes
 
 unfoldable pub freshExport : List ℕ → List ℕ → Exported
@@ -54,19 +58,19 @@ abbrev pub isSoundIn : Option State → Bool
 isSoundIn none = false
 isSoundIn (some st) = sound st
 
-unfoldable pub soundExport : List ℕ → Word × ℕ
-soundExport bytes = if isSoundIn (decoded bytes) then (ok, 0) else (refused, 1)
+unfoldable pub soundExport : List ℕ → Saying
+soundExport bytes = if isSoundIn (decoded bytes) then (ok, 0, none) else (refused, 1, none)
 
 -- the task that a server executes or spins for (rule 3.4); a server that is not Running is told as `ok` and 0
-abbrev pub doingTold : Option (Word × ℕ) → Word × ℕ
-doingTold none = (ok, 0)
+abbrev pub doingTold : Option Saying → Saying
+doingTold none = (ok, 0, none)
 doingTold (some said) = said
 
-abbrev pub executingSaid : Option State → ℕ → Word × ℕ
-executingSaid none s = (refused, 1)
+abbrev pub executingSaid : Option State → ℕ → Saying
+executingSaid none s = (refused, 1, none)
 executingSaid (some st) s = doingTold (saidDoing (doing st s))
 
-unfoldable pub executingExport : List ℕ → ℕ → Word × ℕ
+unfoldable pub executingExport : List ℕ → ℕ → Saying
 executingExport bytes s = executingSaid (decoded bytes) s
 
 abbrev pub stepLeft : Outcome → List ℕ → Exported
@@ -76,8 +80,8 @@ abbrev pub stepBy : Option State → Event → List ℕ → Exported
 stepBy none e bytes = refusal 1 bytes
 stepBy (some st) e bytes = stepLeft (stepped st e) bytes
 
--- an event by the kind's number of a trace. Refusals are told in ascending order: 1 for bytes that hold no sound state, 31 for a kind that is no event's,
--- and then what the event's own tests say (rule 10.2).
+-- an event by the kind's number of a trace. Refusals are told in this order: 1 for bytes that hold no sound state, 31 for a kind that is no event's, and
+-- then what the event's own tests say (rule 10.2).
 unfoldable pub stepExport : List ℕ → ℕ → ℕ → ℕ → ℕ → Exported
 stepExport bytes kind number resource ticks =
     if isEvent kind
@@ -93,7 +97,7 @@ unfoldable pub boundBytes : ℕ → ℕ → List ℕ
 boundBytes value weighings = four (value % 2 ^ 32) ++ four (value / 2 ^ 32) ++ four weighings
 
 abbrev pub boundLeft : Bounded → List ℕ → Exported
-boundLeft (bounded.Bound value weighings) bytes = record { answer = (ok, boundSize); bytes = boundBytes value weighings }
+boundLeft (bounded.Bound value weighings) bytes = record { answer = (ok, boundSize, none); bytes = boundBytes value weighings }
 boundLeft (bounded.Refused n) bytes = refusal n bytes
 
 unfoldable pub boundExport : List ℕ → ℕ → ℕ → List ℕ → Exported

@@ -32,7 +32,7 @@ meteredBytes st n bytes = stored bytes 0 (joinTo n (serverRowBytes st))
 
 -- rule 9.2: `ok` and how many rows, or the refusal, which writes none
 abbrev pub meterLeft : Option ℕ → State → List ℕ → Exported
-meterLeft none st bytes = record { answer = (ok, st .tasks); bytes = meteredBytes st (st .tasks) bytes }
+meterLeft none st bytes = record { answer = (ok, st .tasks, none); bytes = meteredBytes st (st .tasks) bytes }
 meterLeft (some n) st bytes = refusal n bytes
 
 -- bytes that are no state's are no sound state's, 1

@@ -2,6 +2,7 @@
 // of 64 bits (specs/Packed.antt); a refusal writes nothing. Layouts are in docs/STATE.md. Assumes nothing.
 mod answers;
 pub mod bounds;
+pub mod layouts;
 pub mod metering;
 pub mod replaying;
 mod sections;
