@@ -38,6 +38,7 @@ each-unique = record {
   short-text-buffer = λ f g p q κ a. (p κ a .0 ∙ sym (q κ a .0), refl);
   read-image = λ f g p q κ a. (p κ a ∙ sym (q κ a), refl);
   write-image = λ f g p q κ a. (p κ a .0 ∙ sym (q κ a .0), p κ a .1 ∙ sym (q κ a .1));
+  export-layout = λ f g p q κ a. (p κ a ∙ sym (q κ a), refl);
   export-fresh = λ f g p q κ a. (p κ a .0 ∙ sym (q κ a .0), p κ a .1 ∙ sym (q κ a .1));
   export-is-sound = λ f g p q κ a. (p κ a ∙ sym (q κ a), refl);
   export-executing = λ f g p q κ a. (p κ a ∙ sym (q κ a), refl);

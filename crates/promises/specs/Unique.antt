@@ -39,6 +39,7 @@ use Rattle.listing.proofs.buffers.text_buffer.Reads as TextBuffer
 use Rattle.listing.proofs.buffers.short_text_buffer.Reads as ShortTextBuffer
 use Rattle.image.proofs.reading.read.Reads as ReadImage
 use Rattle.image.proofs.writing.write.Reads as WriteImage
+use Rattle.vesztamor.proofs.layouts.vesztamor_layout.Reads as ExportLayout
 use Rattle.vesztamor.proofs.states.vesztamor_fresh.Reads as ExportFresh
 use Rattle.vesztamor.proofs.states.vesztamor_is_sound.Reads as ExportIsSound
 use Rattle.vesztamor.proofs.states.vesztamor_executing.Reads as ExportExecuting
@@ -129,6 +130,7 @@ pub record EachUnique : Type 0 where
   pub read-image : Unique ReadImage.Post
   pub write-image : UniqueLent WriteImage.Post (λ κ x. now (x .1 .0))
   -- The static library.
+  pub export-layout : Unique ExportLayout.Post
   pub export-fresh : UniqueLent ExportFresh.Post (λ κ x. now (x .1 .0))
   pub export-is-sound : Unique ExportIsSound.Post
   pub export-executing : Unique ExportExecuting.Post
