@@ -2,7 +2,8 @@
 //! to step through. `docs/TIMELINE.md` says how to read it.
 //!
 //! Assumes nothing of its input. A faulty trace is drawn up to its stop; exit status 1 tells of a
-//! file that can't be read or written, 2 of a command that can't be understood.
+//! file that can't be read or written, or that the program was built with a library of another
+//! layout, 2 of a command that can't be understood.
 
 use std::io::{self, Read, Write};
 use std::process::ExitCode;
@@ -42,6 +43,7 @@ fn words() -> Result<Vec<String>, String> {
 }
 
 fn drawn(asked: &Arguments) -> Result<String, String> {
+    same_layout(vesztamor::layout())?;
     let names = match &asked.names {
         Some(file) => named(file)?,
         None => Names::default(),
@@ -53,6 +55,17 @@ fn drawn(asked: &Arguments) -> Result<String, String> {
         Form::Svg => svg(&run, view, &names, source),
         Form::Html => page(&run, view, &names, source),
     })
+}
+
+/// The library is whatever file was named when this program was built.
+fn same_layout(found: u64) -> Result<(), String> {
+    let own = vesztamor::LAYOUT;
+    if found != own {
+        return Err(format!(
+            "built with a library of layout {found} instead of {own}; build both anew"
+        ));
+    }
+    Ok(())
 }
 
 fn named(file: &str) -> Result<Names, String> {
@@ -81,4 +94,16 @@ fn written(text: &str) -> Result<(), String> {
     let mut out = io::stdout().lock();
     let done = out.write_all(text.as_bytes()).and_then(|()| out.flush());
     done.map_err(|error| format!("can't write the result: {error}"))
+}
+
+#[cfg(test)]
+mod tests {
+    use super::same_layout;
+
+    #[test]
+    fn a_library_of_another_layout_is_told() {
+        assert_eq!(same_layout(vesztamor::LAYOUT), Ok(()));
+        let told = same_layout(vesztamor::LAYOUT + 1).unwrap_err();
+        assert!(told.ends_with("; build both anew"), "{told}");
+    }
 }

@@ -42,7 +42,7 @@ impl Sign {
             Answer::Waits(_) => Some(Sign::Waits),
             Answer::Passed(_) => Some(Sign::Passed),
             Answer::Freed(_) => Some(Sign::Freed),
-            Answer::Refused(_) => Some(Sign::Refused),
+            Answer::Refused(_) | Answer::RefusedWaiting(_) => Some(Sign::Refused),
             _ => None,
         }
     }

@@ -53,6 +53,7 @@ pub fn answer(answer: Answer) -> String {
         Answer::Passed(n) => ("passed", n),
         Answer::Freed(n) => ("freed", n),
         Answer::Refused(n) => ("refused", n),
+        Answer::RefusedWaiting(resource) => return format!("refused 62 {resource}"),
     };
     format!("{word} {number}")
 }
@@ -69,6 +70,11 @@ pub fn sentence(moment: &Moment, names: &Names) -> String {
             let when = refusal(number);
             let why = when.split_once(": ").map_or(when, |(_, why)| why);
             format!("refused to {}: {why}", wish(moment.event, names))
+        }
+        Answer::RefusedWaiting(resource) => {
+            let awaited = names.resource(resource as u16);
+            let wish = wish(moment.event, names);
+            format!("refused to {wish}: the task waits for {awaited}")
         }
         _ => format!("{}{}", done(moment.event, names), outcome(moment, names)),
     }
@@ -125,7 +131,7 @@ fn outcome(moment: &Moment, names: &Names) -> String {
         (Answer::Freed(_), _) => ", and nobody waits for it".to_string(),
         (Answer::Ok(0), Event::Recharge { .. }) => " and is Idle".to_string(),
         (Answer::Ok(_), Event::Recharge { .. }) => " and is Active".to_string(),
-        (Answer::Ok(0) | Answer::Refused(_), _) => String::new(),
+        (Answer::Ok(0) | Answer::Refused(_) | Answer::RefusedWaiting(_), _) => String::new(),
         (Answer::Ok(_), Event::Preempt { .. }) => "; the task goes on elsewhere".to_string(),
         (Answer::Ok(n), Event::Wake { .. }) => format!("; {} Active", became(n)),
         (Answer::Ok(n), Event::Suspend { .. }) => format!("; {} Idle", became(n)),

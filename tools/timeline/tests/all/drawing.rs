@@ -1,5 +1,5 @@
-//! What is drawn: boxes add up to the accounts, a refusal moves nothing, windows fit together, a
-//! faulty trace is drawn up to its stop.
+//! What is drawn: boxes add up to the accounts, a refusal moves nothing and is told with its
+//! reason, windows fit together, a faulty trace is drawn up to its stop.
 
 use super::{all, examples};
 use timeline::lanes::{lanes, Lane};
@@ -64,6 +64,10 @@ fn boxes_add_up_to_the_accounts() {
     }
 }
 
+fn is_refused(answer: Answer) -> bool {
+    matches!(answer, Answer::Refused(_) | Answer::RefusedWaiting(_))
+}
+
 #[test]
 fn a_refusal_moves_nothing() {
     let mut refusals = 0;
@@ -73,12 +77,51 @@ fn a_refusal_moves_nothing() {
             continue;
         };
         let before = run.moments.len();
-        run.moments
-            .retain(|moment| !matches!(moment.answer, Answer::Refused(_)));
+        run.moments.retain(|moment| !is_refused(moment.answer));
         refusals += before - run.moments.len();
         assert_eq!(with, shape(&run.view(None, None).unwrap()), "{name}");
     }
     assert!(refusals > 500, "only {refusals} refusals");
+}
+
+/// The page of a stored example, with names for two tasks and a resource.
+fn page_of(example: &str) -> String {
+    let (_, trace) = examples()
+        .into_iter()
+        .find(|(name, _)| name.contains(example))
+        .unwrap();
+    let names = Names::of("task 0 meter\ntask 2 label\nresource 1 map").unwrap();
+    let run = Run::of(&trace);
+    page(&run, run.view(None, None), &names, "x")
+}
+
+#[test]
+fn why_a_task_does_not_act_is_told() {
+    for (example, line, why) in [
+        (
+            "61-suspended",
+            "2 refused 61",
+            "refused to lock R0 for meter: the task is suspended",
+        ),
+        (
+            "62-waiting",
+            "12 refused 62 0",
+            "refused to suspend T1: the task waits for R0",
+        ),
+        (
+            "62-waiting",
+            "17 refused 62 1",
+            "refused to lock R0 for label: the task waits for map",
+        ),
+        (
+            "63-not_served",
+            "10 refused 63",
+            "refused to unlock R0 for meter: the task is ready, and no Running server serves it",
+        ),
+    ] {
+        let told = format!("<li><b>{line}</b> {why}</li>\n");
+        assert!(page_of(example).contains(&told), "{example}: {told}");
+    }
 }
 
 #[test]

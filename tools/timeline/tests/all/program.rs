@@ -73,7 +73,7 @@ fn a_window_is_named_by_its_ticks() {
         b"",
     );
     assert!(svg.contains("ticks 3 to 7"));
-    assert!(!svg.contains("20 refused 6"));
+    assert!(!svg.contains("20 refused"));
     assert!(file(&["--from", "99", "examples/incident.trace"], b"").contains("ticks 99 to 99"));
 }
 
