@@ -1,4 +1,4 @@
--- One step: refusal, change, rule H, answer. Rules 10.1 to 10.3, and the answers of rules 7.1 to 7.10.
+-- One step: refusal, change, rule H, answer. Rules 10.1 to 10.4, and the answers of rules 7.1 to 7.10.
 -- `free` is the machine of the same rules without the tests for 1 and 8, through which the theorems on order go. Assumes nothing.
 use mathlib.Core.Bool.{Bool, not, _&&_, _||_}
 use mathlib.Core.List.{List}
@@ -37,8 +37,8 @@ endsAt st t r = owned (resourceAt st r .owner) && eqb (served st (ownerNo (resou
 unfoldable pub topOf : State → TaskNumber → ResourceNumber
 topOf st t = getD (taskAt st t .held) (taskAt st t .depth - 1) 0
 
--- rule 10.2, numbers 61 to 63, where a task itself acts: it is suspended, it waits, no Running server serves it; then the tests that follow. In a sound
--- state a task executes where a Running server serves it, and only there (rules 4.14 and 4.15).
+-- rules 10.2, 10.4, numbers 61 to 63, where a task itself acts: it is suspended, it waits, no Running server serves it; then the tests that follow. In a
+-- sound state a task executes where a Running server serves it, and only there (rules 4.14 and 4.15).
 abbrev pub stalled : Task → List (ℕ × Bool) → List (ℕ × Bool)
 stalled task following =
     61 when suspended (task .mode) or
