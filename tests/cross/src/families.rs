@@ -1,5 +1,6 @@
 //! The families of cases: what each compares, and how many it makes. After the library's layout come
-//! named cases, each a stored trace; then seeded ones. A case is fixed by the seed, its family and its number.
+//! named cases, each a stored trace; then seeded ones. A case is fixed by the seed, its family and
+//! its number.
 //!
 //! Assumes nothing.
 

@@ -50,8 +50,8 @@ const STEP_ANSWERS: [&str; 18] = [
 
 const OTHER_ANSWERS: [&str; 7] = [
     "listing with its end",
-    "listing with refused 62 0",
-    "listing with refused 62 and another resource",
+    "listed: refused 62 0",
+    "listed: refused 62 and another resource",
     "meter ok",
     "meter refused 1",
     "meter refused 22",
@@ -108,9 +108,9 @@ impl Coverage {
         let text = String::from_utf8_lossy(listing);
         for line in text.lines() {
             match line.split(' ').collect::<Vec<_>>()[..] {
-                [_, "refused", "62", "0"] => self.note("listing with refused 62 0".to_string()),
+                [_, "refused", "62", "0"] => self.note("listed: refused 62 0".to_string()),
                 [_, "refused", "62", _] => {
-                    self.note("listing with refused 62 and another resource".to_string());
+                    self.note("listed: refused 62 and another resource".to_string());
                 }
                 _ => (),
             }
