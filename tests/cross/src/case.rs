@@ -2,18 +2,19 @@
 //!
 //! Assumes nothing. A side that panics is seen to have done so, which is an answer like others.
 
+use crate::answer::Answer;
 use crate::sides::{Call, Layer};
-use second::library::text_bytes;
+use second::library::{text_bytes, BOUND_BYTES};
 use std::cell::Cell;
 use std::panic::{self, AssertUnwindSafe};
 use std::sync::Once;
-use vesztamor::Answer;
 
 /// What stands in lent memory before a call, so that bytes which a side leaves alone are seen.
 const UNTOUCHED: u8 = 0xa5;
 
 #[derive(Clone, Debug, PartialEq, Eq)]
 pub enum Case {
+    Layout,
     /// A whole trace, with so many bytes of room less than a listing is given.
     Replay {
         trace: Vec<u8>,
@@ -48,11 +49,9 @@ pub enum Case {
 }
 
 /// The answer of a side.
-#[derive(Clone, Debug, PartialEq, Eq)]
+#[derive(Clone, Copy, Debug, PartialEq, Eq)]
 pub enum Told {
     Answer(Answer),
-    Bound(Result<(u64, u32), u32>),
-    Length(Option<usize>),
     Panicked,
 }
 
@@ -87,25 +86,28 @@ impl Case {
             Case::Replay { trace, missing } => vec![UNTOUCHED; text_bytes(trace.len()) - missing],
             Case::Fresh { room, .. } | Case::Meter { room, .. } => vec![UNTOUCHED; *room],
             Case::Step { state, .. } => state.clone(),
-            Case::Sound { .. } | Case::Executing { .. } | Case::Bound { .. } => Vec::new(),
+            Case::Bound { .. } => vec![UNTOUCHED; BOUND_BYTES],
+            Case::Layout | Case::Sound { .. } | Case::Executing { .. } => Vec::new(),
         };
-        let told = quietly(|| self.ask(side, &mut left)).unwrap_or(Told::Panicked);
+        let answer = quietly(|| self.ask(side, &mut left));
+        let told = answer.map_or(Told::Panicked, Told::Answer);
         Seen { told, left }
     }
 
-    fn ask(&self, side: &dyn Layer, left: &mut [u8]) -> Told {
+    fn ask(&self, side: &dyn Layer, left: &mut [u8]) -> Answer {
         match self {
-            Case::Replay { trace, .. } => Told::Length(side.replay(trace, left)),
-            Case::Fresh { table, .. } => Told::Answer(side.fresh(table, left)),
-            Case::Sound { state } => Told::Answer(side.is_sound(state)),
-            Case::Step { call, .. } => Told::Answer(side.step(left, *call)),
-            Case::Executing { state, server } => Told::Answer(side.executing(state, *server)),
-            Case::Meter { state, .. } => Told::Answer(side.meter(state, left)),
+            Case::Layout => side.layout(),
+            Case::Replay { trace, .. } => side.replay(trace, left),
+            Case::Fresh { table, .. } => side.fresh(table, left),
+            Case::Sound { state } => side.is_sound(state),
+            Case::Step { call, .. } => side.step(left, *call),
+            Case::Executing { state, server } => side.executing(state, *server),
+            Case::Meter { state, .. } => side.meter(state, left),
             Case::Bound {
                 sections,
                 task,
                 allowance,
-            } => Told::Bound(side.bound(sections, *task, *allowance)),
+            } => side.bound(sections, *task, *allowance, left),
         }
     }
 }

@@ -1,5 +1,6 @@
-//! The families of cases: what each compares, and how many it makes. First come named cases, each a
-//! stored trace; then seeded ones. A case is fixed by the seed, its family and its number.
+//! The families of cases: what each compares, and how many it makes. After the library's layout come
+//! named cases, each a stored trace; then seeded ones. A case is fixed by the seed, its family and
+//! its number.
 //!
 //! Assumes nothing.
 
@@ -38,7 +39,8 @@ macro_rules! named {
 }
 
 /// Of the states, 20,000 and more are sound and out of reach from fresh, or break one clause alone.
-pub const FAMILIES: [Family; 15] = [
+pub const FAMILIES: [Family; 17] = [
+    family("layout of the library", 1, |_, _, _| vec![Case::Layout]),
     named!("case R", "../../../tools/trace/examples/case-r.txt"),
     named!(
         "case 1, pass to a holder",
@@ -57,6 +59,7 @@ pub const FAMILIES: [Family; 15] = [
         "../cases/4-both-need-a-server.txt"
     ),
     named!("case 5, three serve one", "../cases/5-three-serve-one.txt"),
+    named!("case 6, who may not act", "../cases/6-who-may-not-act.txt"),
     family("made-up sound states", 14_000, states::made_up),
     family("perturbed sound states", 2_500, states::perturbed),
     family("states with one clause broken", 6_300, states::broken),

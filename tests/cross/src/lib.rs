@@ -2,7 +2,7 @@
 //! program answer the same cases, named and seeded, and every answer and every byte left behind is
 //! compared.
 //!
-//! - `sides`: the two sides, as one trait on numbers and bytes;
+//! - `sides`: the two sides, as one trait on numbers and bytes; `answer`: an answer's 64 bits;
 //! - `case`: one question to both sides, and what a side is seen to answer;
 //! - `families`: which cases there are, and how many of each;
 //! - `wanted`: what the cases have to reach;
@@ -11,6 +11,7 @@
 //! Program `cross` runs it all; program `measure` runs single calls, to be counted by callgrind.
 //! Assumes nothing of either side but that a call comes to an end.
 
+pub mod answer;
 pub mod case;
 pub mod families;
 pub mod layout;

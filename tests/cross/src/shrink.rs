@@ -56,6 +56,7 @@ enum Reduction {
 
 fn reductions(case: &Case) -> Vec<Reduction> {
     match case {
+        Case::Layout => Vec::new(),
         Case::Replay { trace, .. } => piece_reductions(pieces(trace).len()),
         Case::Fresh { .. } => vec![Reduction::DropLastRow; TASK_LIMIT],
         Case::Sound { .. } | Case::Step { .. } | Case::Executing { .. } | Case::Meter { .. } => {
@@ -114,6 +115,7 @@ impl Reduction {
     fn of(self, case: &Case) -> Option<Case> {
         let mut smaller = case.clone();
         match &mut smaller {
+            Case::Layout => return None,
             Case::Replay { trace, .. } => *trace = self.of_trace(trace)?,
             Case::Fresh { table, .. } => {
                 let tasks = u16::from_le_bytes([*table.get(2)?, *table.get(3)?]);

@@ -3,9 +3,11 @@
 //!
 //! Assumes nothing.
 
+use crate::answer::Answer;
 use second::library;
 use second::step::Event;
-use vesztamor::Answer;
+// Its build script links the static library.
+use vesztamor as _;
 
 /// An event as the library takes it; a kind may be any number.
 #[derive(Clone, Copy, Debug, Default, PartialEq, Eq)]
@@ -39,47 +41,106 @@ impl From<Event> for Call {
 
 /// The functions of the static library.
 pub trait Layer {
+    fn layout(&self) -> Answer;
     fn fresh(&self, table: &[u8], state: &mut [u8]) -> Answer;
     fn is_sound(&self, state: &[u8]) -> Answer;
     fn step(&self, state: &mut [u8], call: Call) -> Answer;
     fn executing(&self, state: &[u8], server: u16) -> Answer;
     fn meter(&self, state: &[u8], rows: &mut [u8]) -> Answer;
-    /// The bound and the weighings, or the refusal's number.
-    fn bound(&self, sections: &[u8], task: u16, allowance: u32) -> Result<(u64, u32), u32>;
-    /// The length of the listing, or none where the buffer is too short for it.
-    fn replay(&self, trace: &[u8], out: &mut [u8]) -> Option<usize>;
+    fn bound(&self, sections: &[u8], task: u16, allowance: u32, out: &mut [u8]) -> Answer;
+    fn replay(&self, trace: &[u8], out: &mut [u8]) -> Answer;
+}
+
+/// The static library as it is declared for C: a wrapper might drop bits of an answer.
+mod declared {
+    extern "C" {
+        pub fn vesztamor_layout() -> u64;
+        pub fn vesztamor_fresh(
+            table: *const u8,
+            table_length: usize,
+            state: *mut u8,
+            state_length: usize,
+        ) -> u64;
+        pub fn vesztamor_is_sound(state: *const u8, state_length: usize) -> u64;
+        pub fn vesztamor_step(
+            state: *mut u8,
+            state_length: usize,
+            kind: u16,
+            number: u16,
+            resource: u16,
+            ticks: u32,
+        ) -> u64;
+        pub fn vesztamor_executing(state: *const u8, state_length: usize, server: u16) -> u64;
+        pub fn vesztamor_meter(
+            state: *const u8,
+            state_length: usize,
+            rows: *mut u8,
+            rows_length: usize,
+        ) -> u64;
+        pub fn vesztamor_bound(
+            sections: *const u8,
+            sections_length: usize,
+            task: u16,
+            allowance: u32,
+            out: *mut u8,
+            out_length: usize,
+        ) -> u64;
+        pub fn vesztamor_replay(
+            trace: *const u8,
+            trace_length: usize,
+            out: *mut u8,
+            out_length: usize,
+        ) -> u64;
+    }
 }
 
 /// The proved layer.
 pub struct Proved;
 
+/// Each call lends memory that is there, and no part of it twice, which is all that the library asks.
 impl Layer for Proved {
+    fn layout(&self) -> Answer {
+        Answer::of(unsafe { declared::vesztamor_layout() })
+    }
+
     fn fresh(&self, table: &[u8], state: &mut [u8]) -> Answer {
-        vesztamor::fresh_into(table, state)
+        let (lent, length) = (state.as_mut_ptr(), state.len());
+        Answer::of(unsafe { declared::vesztamor_fresh(table.as_ptr(), table.len(), lent, length) })
     }
 
     fn is_sound(&self, state: &[u8]) -> Answer {
-        vesztamor::is_sound(state)
+        Answer::of(unsafe { declared::vesztamor_is_sound(state.as_ptr(), state.len()) })
     }
 
     fn step(&self, state: &mut [u8], call: Call) -> Answer {
-        vesztamor::step(state, call.kind, call.number, call.resource, call.ticks)
+        let Call {
+            kind,
+            number,
+            resource,
+            ticks,
+        } = call;
+        let (lent, length) = (state.as_mut_ptr(), state.len());
+        Answer::of(unsafe { declared::vesztamor_step(lent, length, kind, number, resource, ticks) })
     }
 
     fn executing(&self, state: &[u8], server: u16) -> Answer {
-        vesztamor::executing(state, server)
+        Answer::of(unsafe { declared::vesztamor_executing(state.as_ptr(), state.len(), server) })
     }
 
     fn meter(&self, state: &[u8], rows: &mut [u8]) -> Answer {
-        vesztamor::meter_into(state, rows)
+        let (lent, length) = (rows.as_mut_ptr(), rows.len());
+        Answer::of(unsafe { declared::vesztamor_meter(state.as_ptr(), state.len(), lent, length) })
     }
 
-    fn bound(&self, sections: &[u8], task: u16, allowance: u32) -> Result<(u64, u32), u32> {
-        vesztamor::bound(sections, task, allowance)
+    fn bound(&self, sections: &[u8], task: u16, allowance: u32, out: &mut [u8]) -> Answer {
+        let (bytes, size) = (sections.as_ptr(), sections.len());
+        let (lent, length) = (out.as_mut_ptr(), out.len());
+        Answer::of(unsafe { declared::vesztamor_bound(bytes, size, task, allowance, lent, length) })
     }
 
-    fn replay(&self, trace: &[u8], out: &mut [u8]) -> Option<usize> {
-        vesztamor::replay_into(trace, out)
+    fn replay(&self, trace: &[u8], out: &mut [u8]) -> Answer {
+        let (lent, length) = (out.as_mut_ptr(), out.len());
+        Answer::of(unsafe { declared::vesztamor_replay(trace.as_ptr(), trace.len(), lent, length) })
     }
 }
 
@@ -87,6 +148,10 @@ impl Layer for Proved {
 pub struct Second;
 
 impl Layer for Second {
+    fn layout(&self) -> Answer {
+        Answer::of(library::layout())
+    }
+
     fn fresh(&self, table: &[u8], state: &mut [u8]) -> Answer {
         Answer::of(library::fresh(table, state))
     }
@@ -113,21 +178,11 @@ impl Layer for Second {
         Answer::of(library::meter(state, rows))
     }
 
-    fn bound(&self, sections: &[u8], task: u16, allowance: u32) -> Result<(u64, u32), u32> {
-        let mut out = [0; library::BOUND_BYTES];
-        match Answer::of(library::bound(sections, task, allowance, &mut out)) {
-            Answer::Refused(number) => Err(number),
-            _ => {
-                let [bound @ .., a, b, c, d] = out;
-                Ok((u64::from_le_bytes(bound), u32::from_le_bytes([a, b, c, d])))
-            }
-        }
+    fn bound(&self, sections: &[u8], task: u16, allowance: u32, out: &mut [u8]) -> Answer {
+        Answer::of(library::bound(sections, task, allowance, out))
     }
 
-    fn replay(&self, trace: &[u8], out: &mut [u8]) -> Option<usize> {
-        match Answer::of(library::replay(trace, out)) {
-            Answer::Ok(length) => Some(length as usize),
-            _ => None,
-        }
+    fn replay(&self, trace: &[u8], out: &mut [u8]) -> Answer {
+        Answer::of(library::replay(trace, out))
     }
 }

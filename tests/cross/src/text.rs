@@ -3,22 +3,23 @@
 //!
 //! Assumes nothing.
 
+use crate::answer::{Answer, OK};
 use crate::case::{Case, Seen, Told};
 use crate::layout::fields;
 use crate::sides::Call;
 use second::generate::runs::framed;
 use second::image::{decode, encode, STATE_BYTES};
-use second::library::METER_ROW_BYTES;
+use second::library::{BOUND_BYTES, METER_ROW_BYTES};
 use second::state::{Resource, Server, Task};
 use second::states::{counts_text, resource_text, server_text, task_text};
 use std::fmt::Write;
 use trace::disassemble::disassemble;
-use vesztamor::Answer;
 
 const NO_PARENT: u8 = 255;
 
 pub fn case_text(case: &Case) -> String {
     match case {
+        Case::Layout => "which layout is it?\n".to_string(),
         Case::Replay { trace, missing: 0 } => disassemble(trace, true),
         Case::Replay { trace, missing } => {
             let text = disassemble(trace, true);
@@ -46,46 +47,44 @@ pub fn difference_text(case: &Case, seen: &[Seen; 2]) -> String {
     let [proved, second] = seen;
     let mut text = format!(
         "proved: {}\nsecond: {}\n",
-        told_text(&proved.told),
-        told_text(&second.told)
+        told_text(case, proved),
+        told_text(case, second)
     );
     match case {
         Case::Replay { .. } => text.push_str(&first_line_apart(seen)),
         Case::Fresh { .. } | Case::Step { .. } => text.push_str(&fields_apart(seen)),
-        Case::Meter { .. } => text.push_str(&rows_apart(seen)),
-        Case::Sound { .. } | Case::Executing { .. } | Case::Bound { .. } => (),
+        Case::Meter { .. } => text.push_str(&rows_apart(seen, METER_ROW_BYTES)),
+        Case::Bound { .. } => text.push_str(&rows_apart(seen, BOUND_BYTES)),
+        Case::Layout | Case::Sound { .. } | Case::Executing { .. } => (),
     }
     text
 }
 
-fn told_text(told: &Told) -> String {
-    match told {
-        Told::Answer(answer) => answer_text(*answer),
-        Told::Bound(Ok((bound, weighings))) => format!("bound {bound} weighings {weighings}"),
-        Told::Bound(Err(number)) => format!("refused {number}"),
-        Told::Length(Some(length)) => format!("a listing of {length} bytes"),
-        Told::Length(None) => "no listing".to_string(),
-        Told::Panicked => "a panic".to_string(),
+/// The answer, and a bound in words.
+fn told_text(case: &Case, seen: &Seen) -> String {
+    match (case, seen.told) {
+        (_, Told::Panicked) => "a panic".to_string(),
+        (Case::Bound { .. }, Told::Answer(answer @ Answer { word: OK, .. })) => {
+            format!("{answer}, {}", bound_text(&seen.left))
+        }
+        (_, Told::Answer(answer)) => answer.to_string(),
     }
 }
 
-fn answer_text(answer: Answer) -> String {
-    let (word, number) = match answer {
-        Answer::Ok(number) => ("ok", number),
-        Answer::Executes(task) => ("executes", task),
-        Answer::Spins(task) => ("spins", task),
-        Answer::Granted(resource) => ("granted", resource),
-        Answer::Waits(task) => ("waits", task),
-        Answer::Passed(task) => ("passed", task),
-        Answer::Freed(resource) => ("freed", resource),
-        Answer::Refused(number) => ("refused", number),
+fn bound_text(bytes: &[u8]) -> String {
+    let (ticks, weighings) = bytes.split_at(8);
+    let number = |bytes: &[u8]| {
+        let highest_first = bytes.iter().rev();
+        highest_first.fold(0u64, |value, &byte| value << 8 | u64::from(byte))
     };
-    format!("{word} {number}")
+    format!("bound {} weighings {}", number(ticks), number(weighings))
 }
 
 fn listing(seen: &Seen) -> String {
     let length = match seen.told {
-        Told::Length(Some(length)) => length.min(seen.left.len()),
+        Told::Answer(Answer {
+            word: OK, number, ..
+        }) => seen.left.len().min(number as usize),
         _ => 0,
     };
     String::from_utf8_lossy(&seen.left[..length]).into_owned()
@@ -124,11 +123,9 @@ fn fields_apart(seen: &[Seen; 2]) -> String {
     text
 }
 
-/// The meter rows that differ, byte by byte.
-fn rows_apart(seen: &[Seen; 2]) -> String {
-    let [proved, second] = seen
-        .each_ref()
-        .map(|seen| seen.left.chunks(METER_ROW_BYTES));
+/// The rows of so many bytes that differ, byte by byte; a bound is one row.
+fn rows_apart(seen: &[Seen; 2], size: usize) -> String {
+    let [proved, second] = seen.each_ref().map(|seen| seen.left.chunks(size));
     let mut text = String::new();
     for (number, (one, other)) in proved.zip(second).enumerate() {
         if one != other {

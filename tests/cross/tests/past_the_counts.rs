@@ -3,13 +3,13 @@
 //!
 //! Assumes nothing.
 
+use cross::answer::Answer;
 use cross::sides::{Call, Layer, Proved, Second};
 use second::generate::events::{possible_events, Kind};
 use second::generate::random::Random;
 use second::generate::states::sound_state;
 use second::image::{in_use, write, STATE_BYTES};
 use second::state::{State, TASK_LIMIT};
-use vesztamor::Answer;
 
 const STATES: u64 = 300;
 
@@ -29,7 +29,7 @@ fn is_used(state: &State, at: usize) -> bool {
 fn asked(layer: &dyn Layer, state: &State, call: Call) {
     let zeros = over(state, 0);
     let full = over(state, 0xff);
-    assert_eq!(layer.is_sound(&full), Answer::Ok(0));
+    assert_eq!(layer.is_sound(&full), Answer::ok(0));
     for server in 0..=TASK_LIMIT as u16 {
         assert_eq!(
             layer.executing(&full, server),
@@ -74,8 +74,8 @@ fn a_faulty_entry_counts_where_it_is_in_use() {
         ..Call::default()
     };
     for (tasks, answer, kind_answer) in [
-        (1, Answer::Ok(0), Answer::Refused(31)),
-        (16, Answer::Refused(1), Answer::Refused(1)),
+        (1, Answer::ok(0), Answer::refused(31)),
+        (16, Answer::refused(1), Answer::refused(1)),
     ] {
         let mut table = [1u16, tasks, 0].map(u16::to_le_bytes).concat();
         for _ in 0..tasks {
@@ -84,7 +84,7 @@ fn a_faulty_entry_counts_where_it_is_in_use() {
         }
         for layer in [&Proved as &dyn Layer, &Second] {
             let mut state = vec![0xff; STATE_BYTES];
-            assert_eq!(layer.fresh(&table, &mut state), Answer::Ok(0));
+            assert_eq!(layer.fresh(&table, &mut state), Answer::ok(0));
             state[last_server] = 9;
             assert_eq!(layer.is_sound(&state), answer);
             assert_eq!(layer.step(&mut state, unknown), kind_answer);

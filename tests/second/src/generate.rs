@@ -8,11 +8,13 @@
 //!   need reach;
 //! - `tables`: `good_table` and `bad_table` for `fresh`;
 //! - `events` and `scenes`: how a run picks its events; `random`: the generator under all of them;
-//! - `coverage` and `survey`: what is to be reached, and how often it is.
+//! - `coverage` and `survey`: what is to be reached, and how often it is; `acting`: what of it is told
+//!   of tasks that may not act.
 //!
 //! Assumes only that this program's own steps are right enough to steer by: the generators keep
 //! its state in order to pick events that are mostly enabled. A case is fixed by its seed.
 
+pub mod acting;
 pub mod coverage;
 pub mod damage;
 pub mod events;

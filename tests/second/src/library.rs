@@ -19,6 +19,8 @@ pub const METER_ROW_BYTES: usize = 17;
 const ROW_BYTES: usize = 10;
 const SECTION_BYTES: usize = 9;
 const NO_PARENT: u8 = 255;
+/// The number of this layout of states, tables, rows and answers.
+const LAYOUT: u64 = 1;
 /// Memory lent for a result has the wrong length.
 const WRONG_ROOM: u16 = 0;
 
@@ -27,13 +29,19 @@ const EXECUTES: u64 = 1;
 const SPINS: u64 = 2;
 const REFUSED: u64 = 7;
 
-/// An answer as one number: the word above, the number in the lower 32 bits.
-fn packed(word: u64, number: u32) -> u64 {
-    word << 32 | u64::from(number)
+/// An answer as one number: the word from bit 56 on, what follows the number from bit 32 on, one
+/// more than it so that 0 is nothing, and the number below.
+fn packed(word: u64, number: u32, follows: Option<u16>) -> u64 {
+    let further = follows.map_or(0, |follows| u64::from(follows) + 1);
+    word << 56 | further << 32 | u64::from(number)
 }
 
-fn refused(number: u16) -> u64 {
-    packed(REFUSED, u32::from(number))
+fn refused(refusal: Refusal) -> u64 {
+    packed(REFUSED, u32::from(refusal.number()), refusal.follows())
+}
+
+fn wrong_room() -> u64 {
+    packed(REFUSED, u32::from(WRONG_ROOM), None)
 }
 
 fn outcome(outcome: Outcome) -> u64 {
@@ -46,7 +54,11 @@ fn outcome(outcome: Outcome) -> u64 {
         Outcome::Passed(_) => 5,
         Outcome::Freed(_) => 6,
     };
-    packed(word, outcome.number())
+    packed(word, outcome.number(), None)
+}
+
+pub fn layout() -> u64 {
+    LAYOUT
 }
 
 /// The room that the listing of a trace of so many bytes is given.
@@ -56,18 +68,18 @@ pub fn text_bytes(trace: usize) -> usize {
 
 pub fn fresh(table: &[u8], state: &mut [u8]) -> u64 {
     if state.len() != STATE_BYTES {
-        return refused(WRONG_ROOM);
+        return wrong_room();
     }
     let Some(table) = table_in(table) else {
-        return refused(Refusal::CountsOutOfRange.number());
+        return refused(Refusal::CountsOutOfRange);
     };
     match fresh_of(&table) {
         (made, Ok(())) => {
             // All bytes: those past the counts become 0.
             state.copy_from_slice(&encode(&made));
-            packed(OK, 0)
+            packed(OK, 0, None)
         }
-        (_, Err(refusal)) => refused(refusal.number()),
+        (_, Err(refusal)) => refused(refusal),
     }
 }
 
@@ -77,46 +89,46 @@ fn sound_state(bytes: &[u8]) -> Option<State> {
 
 pub fn is_sound(state: &[u8]) -> u64 {
     match sound_state(state) {
-        Some(_) => packed(OK, 0),
-        None => refused(Refusal::StateNotSound.number()),
+        Some(_) => packed(OK, 0, None),
+        None => refused(Refusal::StateNotSound),
     }
 }
 
 /// Refusals in ascending order: of the state, of the kind, of the event itself.
 pub fn step(state: &mut [u8], kind: u16, number: u16, resource: u16, ticks: u32) -> u64 {
     let Some(mut held) = sound_state(state) else {
-        return refused(Refusal::StateNotSound.number());
+        return refused(Refusal::StateNotSound);
     };
     let Some(event) = event_of(kind, number, resource, ticks) else {
-        return refused(Refusal::RecordMalformed.number());
+        return refused(Refusal::RecordMalformed);
     };
     match step_sound(&mut held, event) {
         Ok(answer) => {
             write(&held, state);
             outcome(answer)
         }
-        Err(refusal) => refused(refusal.number()),
+        Err(refusal) => refused(refusal),
     }
 }
 
 pub fn executing(state: &[u8], server: u16) -> u64 {
     let Some(state) = decode(state) else {
-        return refused(Refusal::StateNotSound.number());
+        return refused(Refusal::StateNotSound);
     };
     match state.executing(ServerNumber(server)) {
-        Execution::Executes(task) => packed(EXECUTES, u32::from(task.0)),
-        Execution::Spins(task) => packed(SPINS, u32::from(task.0)),
-        Execution::NotRunning => packed(OK, 0),
+        Execution::Executes(task) => packed(EXECUTES, u32::from(task.0), None),
+        Execution::Spins(task) => packed(SPINS, u32::from(task.0), None),
+        Execution::NotRunning => packed(OK, 0, None),
     }
 }
 
 /// Rows that are not whole are told before the state is looked at.
 pub fn meter(state: &[u8], lent: &mut [u8]) -> u64 {
     if !lent.len().is_multiple_of(METER_ROW_BYTES) {
-        return refused(WRONG_ROOM);
+        return wrong_room();
     }
     let Some(state) = decode(state) else {
-        return refused(Refusal::StateNotSound.number());
+        return refused(Refusal::StateNotSound);
     };
     let mut rows = vec![MeterRow::default(); lent.len() / METER_ROW_BYTES];
     match read_meters(&state, &mut rows) {
@@ -127,7 +139,7 @@ pub fn meter(state: &[u8], lent: &mut [u8]) -> u64 {
             }
             outcome(answer)
         }
-        Err(refusal) => refused(refusal.number()),
+        Err(refusal) => refused(refusal),
     }
 }
 
@@ -141,28 +153,28 @@ fn meter_row_bytes(row: &MeterRow) -> Vec<u8> {
 
 pub fn bound(sections: &[u8], task: u16, allowance: u32, out: &mut [u8]) -> u64 {
     if out.len() != BOUND_BYTES {
-        return refused(WRONG_ROOM);
+        return wrong_room();
     }
     let Some(table) = sections_in(sections) else {
-        return refused(Refusal::SectionCountsOutOfRange.number());
+        return refused(Refusal::SectionCountsOutOfRange);
     };
     match bound_of(&table, TaskNumber(task), allowance) {
         Ok(bound) => {
             out[..8].copy_from_slice(&bound.ticks.to_le_bytes());
             out[8..].copy_from_slice(&bound.weighings.to_le_bytes());
-            packed(OK, BOUND_BYTES as u32)
+            packed(OK, BOUND_BYTES as u32, None)
         }
-        Err(refusal) => refused(refusal.number()),
+        Err(refusal) => refused(refusal),
     }
 }
 
 pub fn replay(trace: &[u8], out: &mut [u8]) -> u64 {
     if out.len() < text_bytes(trace.len()) {
-        return refused(WRONG_ROOM);
+        return wrong_room();
     }
     let listing = listing_of(trace);
     out[..listing.len()].copy_from_slice(&listing);
-    packed(OK, listing.len() as u32)
+    packed(OK, listing.len() as u32, None)
 }
 
 /// An event by the number that its kind has in a trace.

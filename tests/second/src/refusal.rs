@@ -2,15 +2,35 @@
 //!
 //! Assumes nothing. The order in which an event tests them is the event's own matter.
 
-/// Why a request was not carried out; the value is the number that is printed.
-#[derive(Clone, Copy, Debug, PartialEq, Eq, PartialOrd, Ord)]
-pub enum Refusal {
+use crate::state::ResourceNumber;
+
+/// Each refusal stands once, with its number. A plain enumeration could not: one of them carries
+/// what is told after its number.
+macro_rules! refusals {
+    ($($name:ident $(($follows:ty))? = $number:literal,)*) => {
+        /// Why a request was not carried out.
+        #[derive(Clone, Copy, Debug, PartialEq, Eq)]
+        pub enum Refusal {
+            $($name $(($follows))?,)*
+        }
+
+        impl Refusal {
+            /// The number that is told.
+            pub fn number(self) -> u16 {
+                match self {
+                    $(Refusal::$name { .. } => $number,)*
+                }
+            }
+        }
+    };
+}
+
+refusals! {
     StateNotSound = 1,
     NoSuchTaskOrServer = 2,
     NoSuchResource = 3,
     ResourceNotDeclared = 4,
     TaskNotSuspended = 5,
-    TaskNotExecuting = 6,
     ServerNotActive = 7,
     NoProcessorFree = 8,
     ServerNotRunning = 9,
@@ -38,12 +58,18 @@ pub enum Refusal {
     NoSuchTaskInTable = 44,
     AllowanceOutOfRange = 45,
     AllowanceExceeded = 46,
+    TaskSuspended = 61,
+    TaskWaiting(ResourceNumber) = 62,
+    TaskNotServed = 63,
 }
 
 impl Refusal {
-    /// The number that is told.
-    pub fn number(self) -> u16 {
-        self as u16
+    /// What is told after the number: the resource that a waiting task awaits, and nothing else.
+    pub fn follows(self) -> Option<u16> {
+        match self {
+            Refusal::TaskWaiting(awaited) => Some(awaited.0),
+            _ => None,
+        }
     }
 }
 

@@ -96,11 +96,14 @@ impl Replay {
     fn answer_line(&mut self, answer: Answer) {
         self.events += 1;
         let event = self.events;
-        let (word, number) = match answer {
-            Ok(outcome) => (outcome.word(), outcome.number()),
-            Err(refusal) => ("refused", u32::from(refusal.number())),
+        let (word, number, follows) = match answer {
+            Ok(outcome) => (outcome.word(), outcome.number(), None),
+            Err(refusal) => ("refused", u32::from(refusal.number()), refusal.follows()),
         };
-        self.line(format_args!("{event} {word} {number}"));
+        match follows {
+            None => self.line(format_args!("{event} {word} {number}")),
+            Some(further) => self.line(format_args!("{event} {word} {number} {further}")),
+        }
     }
 
     fn line(&mut self, text: std::fmt::Arguments) {

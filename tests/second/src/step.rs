@@ -102,7 +102,7 @@ fn wake(state: &mut State, task: TaskNumber) -> Answer {
 
 fn suspend(state: &mut State, task: TaskNumber) -> Answer {
     require(state.has_task(task), Refusal::NoSuchTaskOrServer)?;
-    require(state[task].runs.is_some(), Refusal::TaskNotExecuting)?;
+    may_act(state, task)?;
     state[task].mode = Mode::Suspended;
     state[task].runs = None;
     Ok(Outcome::Ok(idle_servers_of(state, task)))
@@ -185,8 +185,8 @@ fn lock(state: &mut State, task: TaskNumber, resource: ResourceNumber) -> Answer
     require(state.has_resource(resource), Refusal::NoSuchResource)?;
     let declared = state[task].declares(resource);
     require(declared, Refusal::ResourceNotDeclared)?;
+    may_act(state, task)?;
     let executor = state[task].runs;
-    require(executor.is_some(), Refusal::TaskNotExecuting)?;
     let Some(owner) = state[resource].owner else {
         state[resource].owner = Some(task);
         state[task].push(resource);
@@ -208,8 +208,8 @@ fn lock(state: &mut State, task: TaskNumber, resource: ResourceNumber) -> Answer
 fn unlock(state: &mut State, task: TaskNumber, resource: ResourceNumber) -> Answer {
     require(state.has_task(task), Refusal::NoSuchTaskOrServer)?;
     require(state.has_resource(resource), Refusal::NoSuchResource)?;
+    may_act(state, task)?;
     let executor = state[task].runs;
-    require(executor.is_some(), Refusal::TaskNotExecuting)?;
     let owned = state[resource].owner == Some(task);
     require(owned, Refusal::NotOwned)?;
     let on_top = state[task].stack().last() == Some(&resource);
@@ -224,6 +224,20 @@ fn unlock(state: &mut State, task: TaskNumber, resource: ResourceNumber) -> Answ
     state[next].push(resource);
     settle(state, executor);
     Ok(Outcome::Passed(next))
+}
+
+/// What a task needs to act: it doesn't sleep (61), it doesn't wait (62, and the resource that it
+/// awaits itself, wherever its chain leads), and some Running server serves it (63).
+fn may_act(state: &State, task: TaskNumber) -> Result<(), Refusal> {
+    match state[task].mode {
+        Mode::Suspended => return Err(Refusal::TaskSuspended),
+        Mode::Waiting(awaited) => return Err(Refusal::TaskWaiting(awaited)),
+        Mode::Ready => (),
+    }
+    let served = state
+        .server_numbers()
+        .any(|server| state[server].phase == Phase::Running && state.served_by(server) == task);
+    require(served, Refusal::TaskNotServed)
 }
 
 /// Budget Q and deadline clock + P.

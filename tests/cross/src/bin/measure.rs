@@ -14,7 +14,7 @@ use second::generate::random::Random;
 use second::generate::runs::Run;
 use second::generate::sections::{good_question, Question};
 use second::image::encode;
-use second::library::{section_bytes, text_bytes};
+use second::library::{section_bytes, text_bytes, BOUND_BYTES};
 use second::state::{fresh, Counts, ResourceNumber, ServerNumber, State, Table, TaskNumber};
 use second::step::{step, step_sound, Event};
 use std::hint::black_box;
@@ -102,9 +102,10 @@ fn measure_bound(side: &dyn Layer, times: u32) {
     };
     println!("{} weighings", weighings(&largest));
     let sections = section_bytes(&largest.table);
+    let (task, allowance) = (largest.task.0, largest.allowance);
+    let mut out = [0; BOUND_BYTES];
     for _ in 0..times {
-        let answer = side.bound(black_box(&sections), largest.task.0, largest.allowance);
-        let _ = black_box(answer);
+        black_box(side.bound(black_box(&sections), task, allowance, &mut out));
     }
 }
 

@@ -6,6 +6,7 @@
 //! Assumes nothing.
 
 use super::traces::any_run;
+use crate::answer::{Answer, REFUSED};
 use crate::case::Case;
 use crate::layout::fields;
 use crate::sides::Call;
@@ -18,7 +19,6 @@ use second::image::{decode, encode, write, STATE_BYTES};
 use second::library::{meter, METER_ROW_BYTES};
 use second::state::{fresh, Clause, Execution, ServerNumber, State, TaskNumber, TASK_LIMIT};
 use second::step::{step, step_sound, Event};
-use vesztamor::Answer;
 
 /// Server numbers up to one past those that a machine can have, and the largest.
 const LAST_SERVER_ASKED: u16 = 17;
@@ -214,7 +214,11 @@ fn noted_meter(
         coverage.note("meter on no state's bytes".to_string());
     }
     match Answer::of(meter(&bytes, &mut vec![0; room])) {
-        Answer::Refused(number) => coverage.note(format!("meter refused {number}")),
+        Answer {
+            word: REFUSED,
+            number,
+            ..
+        } => coverage.note(format!("meter refused {number}")),
         _ => coverage.note("meter ok".to_string()),
     }
     if lent > tasks {

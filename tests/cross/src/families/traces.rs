@@ -43,8 +43,9 @@ pub fn good(random: &mut Random, _: u64, coverage: &mut Coverage) -> Vec<Case> {
     for &event in &run.events {
         noted_step(coverage, &mut state, event);
     }
-    coverage.note("listing with its end".to_string());
-    vec![replay_case(run.trace())]
+    let trace = run.trace();
+    coverage.note_listing(&replay(&trace));
+    vec![replay_case(trace)]
 }
 
 /// Each kind of damage in turn, then several kinds at once.

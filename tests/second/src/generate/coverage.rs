@@ -4,6 +4,7 @@
 //! Assumes that each step noted was made by this program: the branch of rule H is told from the
 //! states before and after it.
 
+use super::acting;
 use super::events::Kind;
 use crate::refusal::Refusal;
 use crate::state::{
@@ -16,13 +17,13 @@ use std::collections::BTreeMap;
 /// The refusals each kind of event can give, in the order in which it tests them (rule 10.2).
 pub const STEP_REFUSALS: [(Kind, &[u16]); 8] = [
     (Kind::Wake, &[1, 2, 5]),
-    (Kind::Suspend, &[1, 2, 6]),
+    (Kind::Suspend, &[1, 2, 61, 62, 63]),
     (Kind::Dispatch, &[1, 2, 7, 8]),
     (Kind::Preempt, &[1, 2, 9]),
     (Kind::Elapse, &[1, 10, 11, 12]),
     (Kind::Recharge, &[1, 2, 13, 14]),
-    (Kind::Lock, &[1, 2, 3, 4, 6, 15, 16]),
-    (Kind::Unlock, &[1, 2, 3, 6, 17, 18]),
+    (Kind::Lock, &[1, 2, 3, 4, 61, 62, 63, 15, 16]),
+    (Kind::Unlock, &[1, 2, 3, 61, 62, 63, 17, 18]),
 ];
 
 /// The answers each kind of event can give when it is carried out.
@@ -47,8 +48,10 @@ const STEP_ANSWERS: [&str; 18] = [
     "unlock freed",
 ];
 
-const OTHER_ANSWERS: [&str; 5] = [
+const OTHER_ANSWERS: [&str; 7] = [
     "listing with its end",
+    "listed: refused 62 0",
+    "listed: refused 62 and another resource",
     "meter ok",
     "meter refused 1",
     "meter refused 22",
@@ -100,9 +103,18 @@ impl Coverage {
         self.note(format!("broken alone: {clause:?}"));
     }
 
-    /// The last line of a listing that stopped, or its end.
+    /// The last line of a listing that stopped, or its end; and the lines with a fourth field.
     pub fn note_listing(&mut self, listing: &[u8]) {
         let text = String::from_utf8_lossy(listing);
+        for line in text.lines() {
+            match line.split(' ').collect::<Vec<_>>()[..] {
+                [_, "refused", "62", "0"] => self.note("listed: refused 62 0".to_string()),
+                [_, "refused", "62", _] => {
+                    self.note("listed: refused 62 and another resource".to_string());
+                }
+                _ => (),
+            }
+        }
         let last = text.lines().last().unwrap_or_default();
         match last
             .strip_prefix("stop ")
@@ -116,7 +128,12 @@ impl Coverage {
     pub fn note_step(&mut self, before: &State, event: Event, answer: Answer, after: &State) {
         let kind = Kind::of(event).word();
         match answer {
-            Err(refusal) => self.note_refusal(kind, refusal),
+            Err(refusal) => {
+                self.note_refusal(kind, refusal);
+                for name in acting::names(before, event, refusal) {
+                    self.note(name);
+                }
+            }
             Ok(outcome) => {
                 self.note(answer_name(kind, outcome));
                 self.note_rule_h(before, event, after);
@@ -164,6 +181,7 @@ impl Coverage {
             let name = |number| format!("{} refused {number}", kind.word());
             wanted.extend(refusals.iter().map(name));
         }
+        wanted.extend(acting::WANTED.map(String::from));
         wanted.extend([19, 20, 21].map(|number| format!("fresh refused {number}")));
         wanted.extend([19, 20, 21, 30, 31, 32, 33].map(|number| format!("stop {number}")));
         wanted.extend((40..=46).map(|number| format!("bound refused {number}")));

@@ -3,7 +3,6 @@
 //! Assumes a sound state.
 
 use super::random::Random;
-use crate::refusal::Refusal;
 use crate::state::{
     Mode, Phase, ResourceNumber, ServerNumber, State, TaskNumber, CLOCK_LIMIT, TICK_LIMIT,
 };
@@ -204,25 +203,25 @@ fn good_elapses(random: &mut Random, state: &State) -> Vec<Event> {
     ticks.into_iter().map(Event::Elapse).collect()
 }
 
-/// An event that this state refuses; each refusal there is for its kind is as likely.
+/// An event that this state refuses; each number there is for its kind is as likely.
 fn wrong_event(random: &mut Random, state: &State) -> Event {
     loop {
         let kind = Kind::ALL[random.index(Kind::ALL.len())];
         let candidates = possible_events(random, state, kind);
-        let refused: Vec<(Event, Refusal)> = candidates
+        let refused: Vec<(Event, u16)> = candidates
             .into_iter()
             .filter_map(|event| {
                 let refusal = trial(state, event).err()?;
-                Some((event, refusal))
+                Some((event, refusal.number()))
             })
             .collect();
-        let mut refusals: Vec<Refusal> = refused.iter().map(|&(_, refusal)| refusal).collect();
-        refusals.sort_unstable();
-        refusals.dedup();
-        let wanted = random.pick(&refusals);
+        let mut numbers: Vec<u16> = refused.iter().map(|&(_, number)| number).collect();
+        numbers.sort_unstable();
+        numbers.dedup();
+        let wanted = random.pick(&numbers);
         let fitting: Vec<Event> = refused
             .into_iter()
-            .filter(|&(_, refusal)| Some(refusal) == wanted)
+            .filter(|&(_, number)| Some(number) == wanted)
             .map(|(event, _)| event)
             .collect();
         if let Some(event) = random.pick(&fitting) {

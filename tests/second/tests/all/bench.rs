@@ -5,6 +5,7 @@
 
 use second::bound::{Section, SectionTable};
 use second::generate::runs::{encode, framed};
+use second::refusal::Refusal;
 use second::replay::replay;
 use second::state::{
     fresh, Counts, Reservation, ResourceNumber, ServerNumber, State, Table, TaskNumber,
@@ -116,12 +117,17 @@ impl Machine {
         }
     }
 
-    /// The number that the event is refused with; the state must stay.
-    pub fn refuse(&mut self, event: Event) -> u16 {
+    /// What the event is refused with; the state must stay.
+    pub fn refusal(&mut self, event: Event) -> Refusal {
         let before = self.state;
         let refusal = step(&mut self.state, event).expect_err("accepted");
         assert_eq!(self.state, before);
-        refusal.number()
+        refusal
+    }
+
+    /// The number that the event is refused with.
+    pub fn refuse(&mut self, event: Event) -> u16 {
+        self.refusal(event).number()
     }
 
     /// The server that executes a task.

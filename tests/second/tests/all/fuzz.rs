@@ -7,6 +7,7 @@ use second::generate::events::{next_event, Manner};
 use second::generate::random::Random;
 use second::generate::runs::Run;
 use second::generate::states::{perturbed_state, sound_state};
+use second::refusal::Refusal;
 use second::state::{fresh, Execution, Phase, ServerNumber, State, TaskNumber};
 use second::step::{step, step_sound, Answer, Event, Outcome};
 use std::cmp::Reverse;
@@ -74,6 +75,7 @@ fn both_steps_agree_on_sound_states() {
 
 fn check_step(before: &State, event: Event, answer: Answer, after: &State) {
     assert_eq!(after.broken_clauses(), [], "{event:?} from {before:?}");
+    check_who_acts(before, event, answer);
     if answer.is_err() {
         assert_eq!(before, after, "{event:?}");
         return;
@@ -85,6 +87,19 @@ fn check_step(before: &State, event: Event, answer: Answer, after: &State) {
         check_chain_ends(after, task);
     }
     check_unread_entries(before, after);
+}
+
+/// A task that no Running server serves executes nowhere, and the other way round (rules 4.14, 4.15);
+/// 2, 3 and 4 are told before that is looked at.
+fn check_who_acts(before: &State, event: Event, answer: Answer) {
+    let (Event::Suspend(task) | Event::Lock(task, _) | Event::Unlock(task, _)) = event else {
+        return;
+    };
+    let number = answer.err().map(Refusal::number);
+    if !matches!(number, Some(2..=4)) {
+        let may_not = matches!(number, Some(61..=63));
+        assert_eq!(before[task].runs.is_none(), may_not, "{event:?}");
+    }
 }
 
 fn executor_by_rule_h(

@@ -47,6 +47,7 @@ fn traces_replay_to_their_answers() {
         for (number, &event) in (1..).zip(&run.events) {
             let expected = match step(&mut state, event) {
                 Ok(outcome) => format!("{number} {} {}", outcome.word(), outcome.number()),
+                Err(Refusal::TaskWaiting(awaited)) => format!("{number} refused 62 {}", awaited.0),
                 Err(refusal) => format!("{number} refused {}", refusal.number()),
             };
             assert_eq!(lines.next(), Some(expected.as_str()), "seed {seed}");

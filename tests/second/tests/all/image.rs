@@ -1,12 +1,13 @@
 //! A state in bytes: the offsets of docs/STATE.md, both ways, bytes past the counts, and bytes that no
-//! state has; and meter rows in bytes.
+//! state has; meter rows in bytes; and an answer in its 64 bits.
 //!
 //! Assumes nothing.
 
+use super::bench::{lock, Machine};
 use second::generate::random::Random;
 use second::generate::states::{sound_state, tangled_state};
 use second::image::{decode, encode, in_use, write, STATE_BYTES};
-use second::library::{meter, METER_ROW_BYTES};
+use second::library::{executing, is_sound, layout, meter, step, METER_ROW_BYTES};
 use second::state::{
     Mode, Phase, Resource, ResourceNumber, Server, ServerNumber, State, Task, TaskNumber,
 };
@@ -140,4 +141,30 @@ fn meter_rows_stand_at_their_offsets() {
     assert!(rows[METER_ROW_BYTES * tasks..]
         .iter()
         .all(|&byte| byte == 7));
+}
+
+/// Word, what follows and number, each from its bit on.
+#[test]
+fn answers_stand_at_their_bits() {
+    let mut machine = Machine::new(2, 16, &[(9, 9), (9, 9)]);
+    let mut bytes = encode(&machine.state);
+    // suspend, of a task that sleeps, of none, and a kind that is no event's
+    assert_eq!(step(&mut bytes, 2, 0, 0, 0), 7 << 56 | 61);
+    assert_eq!(step(&mut bytes, 2, 2, 0, 0), 7 << 56 | 2);
+    assert_eq!(step(&mut bytes, 9, 0, 0, 0), 7 << 56 | 31);
+    machine.start(&[0, 1]);
+    for of in [0, 15] {
+        machine.accept(lock(0, of));
+        let mut waits = encode(&machine.state);
+        assert_eq!(step(&mut waits, 7, 1, of, 0), 4 << 56);
+        let further = u64::from(of) + 1;
+        let refused = 7 << 56 | further << 32 | 62;
+        assert_eq!(step(&mut waits, 2, 1, 0, 0), refused);
+        assert_eq!(step(&mut waits, 8, 1, 3, 0), refused);
+        assert_eq!(executing(&waits, 0), 1 << 56);
+        assert_eq!(executing(&waits, 1), 2 << 56);
+    }
+    assert_eq!(is_sound(&bytes), 0);
+    assert_eq!(meter(&bytes, &mut [0; 1]), 7 << 56);
+    assert_eq!(layout(), 1);
 }

@@ -14,6 +14,7 @@ mod image;
 mod planners;
 mod programs;
 mod refusal_table;
+mod rules_acting;
 mod rules_bound;
 mod rules_events;
 mod rules_state;

@@ -1,7 +1,7 @@
 //! The table of `docs/REFUSALS.md` has the rules' numbers, each once, in order, and says for each
 //! what it is called, when it comes and what to do.
 //!
-//! Assumes that `refusal.rs` has a line `Name = number,` for each refusal.
+//! Assumes that `refusal.rs` has a line `Name = number,` for each refusal, in ascending order.
 
 const TABLE: &str = include_str!("../../../../docs/REFUSALS.md");
 const REFUSALS: &str = include_str!("../../src/refusal.rs");
@@ -26,7 +26,7 @@ fn the_table_has_the_rules_numbers() {
         .collect();
     let told: Vec<u16> = rows().iter().map(|&(number, _)| number).collect();
     assert_eq!(told, numbers);
-    assert_eq!(told.len(), 33);
+    assert_eq!(told.len(), 35);
 }
 
 #[test]

@@ -16,18 +16,7 @@ fn executing_in_an_inherited_server_is_executing() {
     machine.accept_all(&[lock(0, 0), lock(1, 0), elapse(3)]);
     assert_eq!(machine.executor(0), Some(1));
     assert_eq!(machine.accept(lock(0, 1)), Outcome::Granted(resource(1)));
-    assert_eq!(machine.refuse(suspend(1)), 6);
-}
-
-/// Rule 10.2.
-#[test]
-fn not_executing() {
-    let mut machine = Machine::new(1, 1, &[(3, 9), (3, 9)]);
-    assert_eq!(machine.refuse(suspend(0)), 6);
-    machine.accept(wake(0));
-    assert_eq!(machine.refuse(lock(0, 0)), 6);
-    machine.accept_all(&[dispatch(0), elapse(3)]);
-    assert_eq!(machine.refuse(unlock(0, 0)), 6);
+    assert_eq!(machine.refuse(suspend(1)), 62);
 }
 
 /// Task 0 declares nothing, task 1 resource 0 only.
@@ -45,10 +34,10 @@ fn order_of_refusals() {
     assert_eq!(machine.refuse(lock(2, 2)), 2);
     assert_eq!(machine.refuse(lock(0, 2)), 3);
     assert_eq!(machine.refuse(lock(0, 0)), 4);
-    assert_eq!(machine.refuse(lock(1, 0)), 6);
+    assert_eq!(machine.refuse(lock(1, 0)), 61);
     assert_eq!(machine.refuse(unlock(2, 2)), 2);
     assert_eq!(machine.refuse(unlock(0, 2)), 3);
-    assert_eq!(machine.refuse(unlock(0, 0)), 6);
+    assert_eq!(machine.refuse(unlock(0, 0)), 61);
     machine.start(&[1]);
     assert_eq!(machine.refuse(dispatch(0)), 7);
     machine.accept(wake(0));

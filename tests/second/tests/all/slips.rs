@@ -57,5 +57,5 @@ fn releasing_task_is_not_sent_to_a_recharging_server() {
     assert_eq!(machine.executor(waiter), Some(waiter));
     assert_eq!(machine.executor(holder), None);
     assert_eq!(machine.state[server(holder)].phase, Phase::Recharging);
-    assert_eq!(machine.refuse(suspend(holder)), 6);
+    assert_eq!(machine.refuse(suspend(holder)), 63);
 }
