@@ -1,5 +1,6 @@
 // What each event asks of a state and what it changes in it, before rule H: `event::refusal` and `event::changed`, the events on servers and tasks in
-// `servers`, lock and unlock in `locks`. A refusal takes any state; a change takes a sound one in which no test refuses the event.
+// `servers`, lock and unlock in `locks`, why a task does not act in `acting`. A refusal takes any state; a change takes a sound one in which no test
+// refuses the event.
 use model::Answer;
 use model::ServerNo;
 use model::State;

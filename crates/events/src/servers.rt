@@ -1,5 +1,6 @@
-// Wake, suspend, dispatch, preempt, elapse, recharge: the tests of each, and its change. A change writes into the state that it is given: copies of a
-// state are what a step spends most on. None of these events changes a chain. A change assumes a sound state that no test refuses the event.
+// Wake, suspend, dispatch, preempt, elapse, recharge: the tests of each, but suspend's, which stand in `acting`, and its change. A change writes into the
+// state that it is given: copies of a state are what a step spends most on. None of these events changes a chain. A change assumes a sound state that no
+// test refuses the event.
 ghost use mathlib.Core.Path.{_≡_};
 ghost use mathlib.Core.Bool.{true, not};
 ghost use Rattle.laws.specs.Tests.{firstOf, if_then_else_};
