@@ -16,7 +16,8 @@ pub const ROW_BYTES: usize = 17;
 /// As many rows as a machine can have servers.
 const MOST_ROWS: usize = 16;
 
-mod library {
+/// The functions as they are declared for C, for whoever wants the bits of an answer as they come.
+pub mod library {
     extern "C" {
         pub fn vesztamor_layout() -> u64;
         pub fn vesztamor_fresh(

@@ -36,11 +36,11 @@ Which =
 abbrev pub NoOther : Type 0
 NoOther = (st : State) (e : Event) (n : ℕ) → 61 ≤ n → refusedBy n (stepped st e .answer) ≡ true → (sound st ≡ true) × Admitted st e
 
--- the resource that goes with 62 is there, and it is the one that the task itself awaits
+-- every refusal by 62 names a resource, which is there, and is the one that the task itself awaits
 abbrev pub NamesAwaited : Type 0
 NamesAwaited =
-    (st : State) (e : Event) (r : ResourceNumber) → stepped st e .answer ≡ RefusedWaiting r →
-    (taskAt st (numberOf e) .mode ≡ Waiting r) × (present st r ≡ true)
+    (st : State) (e : Event) → refusedBy 62 (stepped st e .answer) ≡ true →
+    (r : ResourceNumber) × (stepped st e .answer ≡ RefusedWaiting r) × (taskAt st (numberOf e) .mode ≡ Waiting r) × (present st r ≡ true)
 
 -- rule 11.1: the mode of a task, with what it awaits, and whether it is unserved are its group's: no event of another group changes them
 abbrev pub GroupsOwn : Type 0

@@ -2,7 +2,7 @@
 -- state after an accepted event is one on steps by `stepped-has`; so entries past the counts stay (`past-kept`), in a state of any shape, because no
 -- accepted event reaches them. No test has number 1 and no accepted answer refuses, so refusal 1 means an unsound state and nothing else.
 -- Leans on Frames.antt. Assumes nothing.
-use Rattle.theory.proofs.Kit.{_≡_, refl, sym, ap, _∙_, true, false, Option, none, some, ⊎-elim, ℕ, eqb, eqb-true, ne-eqb}
+use Rattle.theory.proofs.Kit.{_≡_, refl, sym, ap, _∙_, Bool, true, false, Option, none, some, ⊎-elim, ℕ, eqb, eqb-true, ne-eqb}
 use Rattle.laws.specs.Tests.{firstOf, without}
 use Rattle.laws.proofs.Cases.{split, holds-fails, if-no, first-without, without-never}
 use Rattle.laws.proofs.Set.{each-cases}
@@ -49,7 +49,7 @@ stepped-has P st e before after =
 pub refusing-refuses : (mode : Mode) (n : ℕ) → isRefused (refusing mode n) ≡ true
 refusing-refuses mode n = split (eqb n 62) (λ y. rw y) (λ f. rw f)
 
-pub refusing-by : (mode : Mode) (n m : ℕ) → refusedBy m (refusing mode n) ≡ eqb n m
+refusing-by : (mode : Mode) (n m : ℕ) → refusedBy m (refusing mode n) ≡ eqb n m
 refusing-by mode n m = split (eqb n 62) (λ y. rw y (rw (eqb-true n 62 y) refl)) (λ f. rw f)
 
 -- an accepted event passed every test
@@ -80,10 +80,26 @@ answered-not st next (Recharge s) = refl
 answered-not st next (Lock t r) = split (owned (resourceAt st r .owner)) (λ y. rw y) (λ n. rw n)
 answered-not st next (Unlock t r) = split (eqb (resourceAt st r .waiting) 0) (λ y. rw y) (λ n. rw n)
 
--- so what gives no number m is not refused m
+-- whether m is the number that tests tell
+abbrev pub tells : ℕ → Option ℕ → Bool
+tells m none = false
+tells m (some n) = eqb n m
+
+pub tells-not : (m : ℕ) (x : Option ℕ) → (x ≡ some m → ⊥) → tells m x ≡ false
+tells-not m none n = refl
+tells-not m (some k) n = ne-eqb k m (λ q. n (ap some q))
+
+pub tells-some : (m : ℕ) (x : Option ℕ) → tells m x ≡ true → x ≡ some m
+tells-some m none h = holds-fails h refl
+tells-some m (some k) h = ap some (eqb-true k m h)
+
+-- so an outcome is refused m exactly where the tests tell m
+pub outcome-tells : (m : ℕ) (x : Option ℕ) (st : State) (e : Event) → refusedBy m (outcome x st e .answer) ≡ tells m x
+outcome-tells m none st e = rw (answered-not st (stateAfter st e) e)
+outcome-tells m (some n) st e = refusing-by (taskAt st (numberOf e) .mode) n m
+
 pub outcome-not : (m : ℕ) (x : Option ℕ) (st : State) (e : Event) → (x ≡ some m → ⊥) → refusedBy m (outcome x st e .answer) ≡ false
-outcome-not m none st e n = rw (answered-not st (stateAfter st e) e)
-outcome-not m (some k) st e n = refusing-by (taskAt st (numberOf e) .mode) k m ∙ ne-eqb k m (λ q. n (ap some q))
+outcome-not m x st e n = outcome-tells m x st e ∙ tells-not m x n
 
 -- what lies past the counts stays
 module _ (st : State) (i : ℕ) where

@@ -1,21 +1,15 @@
 -- A refusal gives the state back, and its number is that of a test, or 1; so it is one of those that are listed for the event. Assumes nothing.
-use Rattle.theory.proofs.Kit.{_≡_, refl, sym, ap, _∙_, Bool, true, false, List, [], _∷_, _⊎_, inl, inr, ⊎-elim, Option, none, some, ℕ, eqb, eqb-true, eq-eqb}
+use Rattle.theory.proofs.Kit.{_≡_, refl, sym, _∙_, Bool, true, false, List, [], _∷_, _⊎_, inl, inr, ⊎-elim, Option, none, some, ℕ, eqb, eqb-true, eq-eqb}
 use Rattle.laws.specs.Tests.{firstOf}
-use Rattle.laws.proofs.Cases.{split, none-some, holds-fails, and-left}
+use Rattle.laws.proofs.Cases.{split, none-some, holds-fails}
 use Rattle.theory.proofs.Declared.{State, Event, Wake, Suspend, Dispatch, Preempt, Elapse, Recharge, Lock, Unlock}
-use Rattle.model.specs.State.{taskAt}
 use Rattle.model.specs.Sound.{sound}
-use Rattle.model.specs.Events.{numberOf}
 use Rattle.model.specs.Step.{tests, stateAfter, outcome, stepped}
 use Rattle.model.specs.Said.{isRefused}
 use Rattle.model.proofs.Sound.{Loose, sound-facts}
 use Rattle.theory.specs.Runs.{refusedBy, numbers, numbersOf, risingFrom, Among}
 use Rattle.model.proofs.Grounds.{Grounds, grounds, unrefused-free}
-use Rattle.theory.proofs.Outcomes.{stepped-sound, stepped-unsound, refusing-by, answered-not, goes-none}
-
-outcome-refused : (x : Option ℕ) (st : State) (e : Event) (n : ℕ) → refusedBy n (outcome x st e .answer) ≡ true → x ≡ some n
-outcome-refused none st e n h = holds-fails (and-left _ _ h) (answered-not st (stateAfter st e) e)
-outcome-refused (some m) st e n h = ap some (eqb-true m n (sym (refusing-by (taskAt st (numberOf e) .mode) m n) ∙ h))
+use Rattle.theory.proofs.Outcomes.{stepped-sound, stepped-unsound, answered-not, tells-some, outcome-tells, goes-none}
 
 -- why it was refused: the state is not sound, or a test says so
 pub refused-why
@@ -25,7 +19,7 @@ unfolding stepped
 refused-why st e n h =
     split
     (sound st)
-    (λ y. inr (y, outcome-refused (firstOf (tests st e)) st e n (rw (stepped-sound st e y) at h)))
+    (λ y. inr (y, tells-some n (firstOf (tests st e)) (sym (outcome-tells n (firstOf (tests st e)) st e) ∙ (rw (stepped-sound st e y) at h))))
     (λ f. inl (f, sym (eqb-true 1 n (rw f at h))))
 
 -- whatever refuses gives the state back

@@ -1,7 +1,7 @@
 -- Why a task does not act (rule 10.4). In a sound state a task in use is asleep, awaits a resource, is unserved or executes, one of the four
 -- (`one-of-four`); an event that is admitted is refused 61, 62 or 63 where its task is the first, the second or the third (`which`), other events never
 -- (`tells-admitted`), and 62 names what the task awaits (`names-awaited`); no event of another group changes any of it (`others-leave`). Assumes nothing.
-use Rattle.theory.proofs.Kit.{_≡_, refl, sym, ap, _∙_, Bool, true, false, not, _&&_, true≢false, List, _∷_, Option, none, some, ⊎-elim, ℕ, _+_, _≤_, arith, eqb, ne-eqb}
+use Rattle.theory.proofs.Kit.{_≡_, refl, sym, ap, _∙_, Bool, true, false, not, _&&_, true≢false, List, _∷_, Option, some, ⊎-elim, ℕ, _+_, _≤_, arith}
 use Rattle.laws.specs.Tests.{bit, accepted, firstOf}
 use Rattle.laws.specs.Loops.{allTo}
 use Rattle.laws.proofs.Cases.{split, holds-fails, unheld-fails, and-right, and-both, first-no}
@@ -13,14 +13,14 @@ use Rattle.model.specs.Sound.{sound}
 use Rattle.model.specs.Shape.{Shaped}
 use Rattle.model.specs.Events.{numberOf}
 use Rattle.model.specs.Groups.{groupOf, kindOf}
-use Rattle.model.specs.Step.{stalled, tests, stateAfter, outcome, stepped}
+use Rattle.model.specs.Step.{stalled, tests, stepped}
 use Rattle.model.specs.Stalled.{asleep, awaits, notRunningFor, unserved, Admitted}
 use Rattle.model.proofs.Chain.{here-below}
 use Rattle.model.proofs.Sound.{Loose, sound-facts}
 use Rattle.model.proofs.Stalled.{untold, later, admitted, admitted-here}
 use Rattle.theory.specs.Runs.{refusedBy}
 use Rattle.theory.proofs.Readings.{for-here}
-use Rattle.theory.proofs.Outcomes.{stepped-sound, refusing-by, answered-not}
+use Rattle.theory.proofs.Outcomes.{stepped-sound, tells, tells-not, outcome-tells}
 use Rattle.theory.proofs.Refusals.{refused-why}
 use Rattle.theory.proofs.Executing.{runs-ready, served-executes}
 use Rattle.theory.proofs.Agreement.{for-same, good-home}
@@ -60,19 +60,6 @@ module _ (st : State) (s : sound st ≡ true) (t : ℕ) (used : here st t ≡ tr
   unfolding unserved executing
   one-of-four =
       rw (used, ← unplaced-unserved) (four-sum (taskAt st t .mode) (placed (taskAt st t .runs)) (λ y. runs-ready st facts t (and-both _ _ used y)))
-
--- whether m is the number that is told
-abbrev tells : ℕ → Option ℕ → Bool
-tells m none = false
-tells m (some n) = eqb n m
-
-tells-not : (m : ℕ) (x : Option ℕ) → (x ≡ some m → ⊥) → tells m x ≡ false
-tells-not m none n = refl
-tells-not m (some k) n = ne-eqb k m (λ q. n (ap some q))
-
-outcome-tells : (m : ℕ) (x : Option ℕ) (st : State) (e : Event) → refusedBy m (outcome x st e .answer) ≡ tells m x
-outcome-tells m none st e = rw (answered-not st (stateAfter st e) e)
-outcome-tells m (some n) st e = refusing-by (taskAt st (numberOf e) .mode) n m
 
 -- which of the three numbers comes first
 three-told
@@ -123,24 +110,26 @@ pub tells-admitted : (st : State) (e : Event) (n : ℕ) → 61 ≤ n → refused
 tells-admitted st e n high h =
     ⊎-elim (λ f. absurd (let one = f .1 in omega arith)) (λ r. (r .0, admitted n high st e (r .1))) (refused-why st e n h)
 
-waits-for : (m : Mode) (r : ℕ) → waiting m ≡ true → awaited m ≡ r → m ≡ Waiting r
-waits-for Suspended r w e = holds-fails w refl
-waits-for Ready r w e = holds-fails w refl
-waits-for (Waiting k) r w e = ap Waiting e
+waits-for : (m : Mode) → waiting m ≡ true → m ≡ Waiting (awaited m)
+waits-for Suspended w = holds-fails w refl
+waits-for Ready w = holds-fails w refl
+waits-for (Waiting r) w = refl
 
 pub names-awaited
-    : (st : State) (e : Event) (r : ℕ) → stepped st e .answer ≡ RefusedWaiting r → (taskAt st (numberOf e) .mode ≡ Waiting r) × (present st r ≡ true)
-names-awaited st e r h =
-    let by : refusedBy 62 (stepped st e .answer) ≡ true = ap (refusedBy 62) h in
+    : (st : State) (e : Event) → refusedBy 62 (stepped st e .answer) ≡ true
+    → (r : ℕ) × (stepped st e .answer ≡ RefusedWaiting r) × (taskAt st (numberOf e) .mode ≡ Waiting r) × (present st r ≡ true)
+names-awaited st e by =
     ⊎-elim
     (λ f. absurd (let one = f .1 in omega arith))
     (λ q.
     let a = admitted 62 (omega arith) st e (q .1) in
     let mode = taskAt st (numberOf e) .mode in
-    let waits : waiting mode ≡ true = sym (which st (q .0) e a .1) ∙ by in
-    let same : RefusedWaiting (awaited mode) ≡ RefusedWaiting r = rw (stepped-sound st e (q .0), q .1) at h in
-    let named : awaited mode ≡ r = cc in
-    (waits-for mode r waits named, rw (← named) (sound-facts st .holds (q .0) .is-loose .wait (numberOf e) (admitted-here st e a) waits)))
+    let waits : waiting mode ≡ true = sym (which st (q .0) e a .1) ∙ by in (
+      awaited mode,
+      rw (stepped-sound st e (q .0), q .1) refl,
+      waits-for mode waits,
+      sound-facts st .holds (q .0) .is-loose .wait (numberOf e) (admitted-here st e a) waits,
+    ))
     (refused-why st e 62 by)
 
 pub others-leave

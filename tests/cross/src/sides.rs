@@ -6,8 +6,8 @@
 use crate::answer::Answer;
 use second::library;
 use second::step::Event;
-// Its build script links the static library.
-use vesztamor as _;
+// As they are declared for C: the wrapper's own answers might drop bits.
+use vesztamor::library as declared;
 
 /// An event as the library takes it; a kind may be any number.
 #[derive(Clone, Copy, Debug, Default, PartialEq, Eq)]
@@ -49,49 +49,6 @@ pub trait Layer {
     fn meter(&self, state: &[u8], rows: &mut [u8]) -> Answer;
     fn bound(&self, sections: &[u8], task: u16, allowance: u32, out: &mut [u8]) -> Answer;
     fn replay(&self, trace: &[u8], out: &mut [u8]) -> Answer;
-}
-
-/// The static library as it is declared for C: a wrapper might drop bits of an answer.
-mod declared {
-    extern "C" {
-        pub fn vesztamor_layout() -> u64;
-        pub fn vesztamor_fresh(
-            table: *const u8,
-            table_length: usize,
-            state: *mut u8,
-            state_length: usize,
-        ) -> u64;
-        pub fn vesztamor_is_sound(state: *const u8, state_length: usize) -> u64;
-        pub fn vesztamor_step(
-            state: *mut u8,
-            state_length: usize,
-            kind: u16,
-            number: u16,
-            resource: u16,
-            ticks: u32,
-        ) -> u64;
-        pub fn vesztamor_executing(state: *const u8, state_length: usize, server: u16) -> u64;
-        pub fn vesztamor_meter(
-            state: *const u8,
-            state_length: usize,
-            rows: *mut u8,
-            rows_length: usize,
-        ) -> u64;
-        pub fn vesztamor_bound(
-            sections: *const u8,
-            sections_length: usize,
-            task: u16,
-            allowance: u32,
-            out: *mut u8,
-            out_length: usize,
-        ) -> u64;
-        pub fn vesztamor_replay(
-            trace: *const u8,
-            trace_length: usize,
-            out: *mut u8,
-            out_length: usize,
-        ) -> u64;
-    }
 }
 
 /// The proved layer.

@@ -3,11 +3,11 @@
 //!
 //! Assumes nothing. The wrong layers answer as the second program does but for that place.
 
+mod common;
+
+use common::difference;
 use cross::answer::{Answer, EXECUTES, GRANTED, OK, REFUSED, SPINS};
-use cross::case::Sides;
-use cross::families::FAMILIES;
 use cross::sides::{Call, Layer, Second};
-use second::generate::coverage::Coverage;
 use second::library::METER_ROW_BYTES;
 
 /// Which function is wrong.
@@ -121,15 +121,7 @@ impl Layer for WrongLayer {
 
 /// The text of the first difference in a family.
 fn told_apart(wrong: Wrong, family: &str) -> String {
-    let layer = WrongLayer(wrong);
-    let sides = Sides {
-        proved: &layer,
-        second: &Second,
-    };
-    let family = FAMILIES.iter().find(|one| one.name == family);
-    let family = family.expect("there is such a family");
-    let outcome = family.compare(&sides, 1, &mut Coverage::default());
-    outcome.difference.expect("it is told apart").text
+    difference(&WrongLayer(wrong), family).expect("it is told apart")
 }
 
 #[test]

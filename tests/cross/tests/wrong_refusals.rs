@@ -4,11 +4,11 @@
 //! Assumes nothing. The wrong layers answer as the second program does but for a suspend, lock or
 //! unlock that is refused.
 
+mod common;
+
+use common::difference;
 use cross::answer::{Answer, REFUSED};
-use cross::case::Sides;
-use cross::families::FAMILIES;
 use cross::sides::{Call, Layer, Second};
-use second::generate::coverage::Coverage;
 use second::image::{decode, encode};
 use second::state::{Mode, Phase, ResourceNumber, State, TaskNumber};
 
@@ -249,17 +249,8 @@ fn not_on_top(state: &State, call: Call) -> Option<u32> {
 
 /// The text of the first difference in a family.
 fn told_apart(what: &str, judgement: Judgement, family: &str) -> String {
-    let layer = WrongLayer(judgement);
-    let sides = Sides {
-        proved: &layer,
-        second: &Second,
-    };
-    let family = FAMILIES.iter().find(|one| one.name == family);
-    let family = family.expect("there is such a family");
-    let outcome = family.compare(&sides, 1, &mut Coverage::default());
-    let difference = outcome.difference;
-    let difference = difference.unwrap_or_else(|| panic!("{what}: not told apart"));
-    difference.text
+    let text = difference(&WrongLayer(judgement), family);
+    text.unwrap_or_else(|| panic!("{what}: not told apart"))
 }
 
 #[test]
