@@ -39,8 +39,11 @@ for file, text in texts.items():
     if file.suffix != '.antt' or (OWN_RESULT.search(str(file.relative_to(ROOT))) and file.parent.name != 'proofs'):
         continue
     inside = head = None
-    for line in text.split('\n'):
-        found, depth = DECLARED.match(code_of(line)), len(line) - len(line.lstrip())
+    lines = text.split('\n')
+    for line, following in zip(lines, [*lines[1:], '']):
+        # a long type stands on the lines below its name
+        code = code_of(line).rstrip() + (' :' if following.lstrip().startswith(': ') else '')
+        found, depth = DECLARED.match(code), len(line) - len(line.lstrip())
         if line.strip() and inside is not None and depth <= inside:
             inside = None
         if re.match(r' *(pub )?record ', line):

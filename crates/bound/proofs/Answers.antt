@@ -10,7 +10,7 @@ use lib.Dec.{ltb, leb}
 use borrow.Author.Tests.{ltb-true, lt-ltb, leb-true}
 use Rattle.laws.specs.Tests.{first_of, ◌or_else◌}
 use Rattle.laws.proofs.Cases.{split, none_some, and_right}
-use Rattle.laws.proofs.Fold.{fold-keeps}
+use Rattle.laws.proofs.Fold.{fold_keeps}
 use Rattle.bound.specs.declared.Bounded.TheVariants.{Bound, Refused}
 use Rattle.bound.specs.declared.Parent.TheVariants.{Outermost}
 use Rattle.bound.specs.declared.Sections.{Sections}
@@ -62,28 +62,28 @@ module _ (s : Sections) (t allowance : ℕ) where
       other_later 46 (table_refusal s) _
       (other_later 46 _ _ (other_first 46 40 _ [] (λ e. omega arith) (none_told 46))
       (other_later 46 _ _
-      (fold-keeps (λ o. o ≡ some 46 → ⊥) (section_refusal s) s.count
+      (fold_keeps (λ o. o ≡ some 46 → ⊥) (section_refusal s) s.count
       (λ i l o h. other_later 46 o _ h (other_first 46 41 _ _ (λ e. omega arith) (other_first 46 42 _ [] (λ e. omega arith) (none_told 46))))
       none (λ e. none_some e))
       (other_first 46 43 _ [] (λ e. omega arith) (none_told 46))))
       (other_first 46 44 _ _ (λ e. omega arith) (other_first 46 45 _ [] (λ e. omega arith) (none_told 46)))
 
 -- the answer is 46 where nothing is refused and the weighings exceed the allowance
-told-46
+told_46
     : (o : Option ℕ) (allowance : ℕ) (w : Weighed) → (o ≡ some 46 → ⊥)
     → unless_refused o (within allowance w) ≡ Refused 46 → (o ≡ none) × (allowance < w.weighings)
-told-46 none allowance w h e = (
+told_46 none allowance w h e = (
   refl,
   split (ltb allowance w.weighings) (ltb-true _ _) (λ n.
       let q : Bound w.value w.weighings ≡ Refused 46 = rw n at e in
       let z : ◌≡◌ {A = ℕ} 0 1 = cc in
       absurd (omega arith)),
 )
-told-46 (some n) allowance w h e = absurd (h (cc))
+told_46 (some n) allowance w h e = absurd (h (cc))
 
 -- 46 comes where the weighings exceed the allowance, and only there
-pub spent-exactly
+pub spent_exactly
     : (s : Sections) (t allowance : ℕ)
     → (answer s t allowance ≡ Refused 46) ↔ ((refusal s t allowance ≡ none) × (allowance < (bound s t).weighings))
 unfolding answer
-spent-exactly s t allowance = (told-46 (refusal s t allowance) allowance (bound s t) (not_46 s t allowance), λ h. rw (h.0, lt-ltb _ _ h.1))
+spent_exactly s t allowance = (told_46 (refusal s t allowance) allowance (bound s t) (not_46 s t allowance), λ h. rw (h.0, lt-ltb _ _ h.1))

@@ -21,22 +21,22 @@ nesting s Outermost = s.count
 nesting s (Inside p) = s.count - suc p
 
 -- a child leaves less to nest than its parent
-child-less
+child_less
     : (s : Sections) → Accepted s → (c : ℕ) (p o : Parent)
     → c < s.count → (section_at s c).parent ≡ o → directly_in o p ≡ true → nesting s (Inside c) < nesting s p
-child-less s good c Outermost o l e h = omega arith
-child-less s good c (Inside p) Outermost l e h = absurd (let z : ◌≡◌ {A = ℕ} 0 1 = cc in omega arith)
-child-less s good c (Inside p) (Inside i) l e h = omega (arith, eqb-true i p h, good.parent_earlier c i l e)
+child_less s good c Outermost o l e h = omega arith
+child_less s good c (Inside p) Outermost l e h = absurd (let z : ◌≡◌ {A = ℕ} 0 1 = cc in omega arith)
+child_less s good c (Inside p) (Inside i) l e h = omega (arith, eqb-true i p h, good.parent_earlier c i l e)
 
 module _ (s : Sections) (t : ℕ) where
   -- sections of the sum that agree where c stands in p
-  pub over-same
+  pub over_same
       : (f g : ℕ → Resources → Weighed) (h k : Parent → Resources → Weighed) (p : Parent) (r : Resources) (c : ℕ)
       → ((q : ℕ) (wider : Resources) → f q wider ≡ g q wider)
       → (directly_in (section_at s c).parent p ≡ true → (wider : Resources) → h (Inside c) wider ≡ k (Inside c) wider)
       → sum_over f h s t p r c ≡ sum_over g k s t p r c
   unfolding sum_over
-  over-same f g h k p r c same inner =
+  over_same f g h k p r c same inner =
       split
       (is_in s t p c)
       (λ e.
@@ -63,7 +63,7 @@ module _ (s : Sections) (t : ℕ) where
     childless same p r c l h =
         split
         (is_in s t p c)
-        (λ e. absurd (omega (arith, child-less s good c p _ l refl (and_right (eqb (section_at s c).task.0 t) _ e))))
+        (λ e. absurd (omega (arith, child_less s good c p _ l refl (and_right (eqb (section_at s c).task.0 t) _ e))))
         (λ e. rw e)
 
     depth_step : (depth : ℕ) (p : Parent) (r : Resources) → nesting s p ≤ depth → sums depth ordered s t p r ≡ sums (suc depth) ordered s t p r
@@ -72,9 +72,9 @@ module _ (s : Sections) (t : ℕ) where
     depth_step (suc depth) p r h =
         gathered_same _ _ _ s.count
         (λ c l.
-        over-same ordered ordered (sums depth ordered s t) (sums (suc depth) ordered s t) p r c
+        over_same ordered ordered (sums depth ordered s t) (sums (suc depth) ordered s t) p r c
         (λ q wider. refl)
-        (λ e wider. depth_step depth (Inside c) wider (omega (arith, child-less s good c p _ l refl e))))
+        (λ e wider. depth_step depth (Inside c) wider (omega (arith, child_less s good c p _ l refl e))))
 
     -- `depth` at least the sections left to nest
     pub depth_more : (depth : ℕ) (p : Parent) (r : Resources) → nesting s p ≤ depth → sums depth ordered s t p r ≡ sums (nesting s p) ordered s t p r

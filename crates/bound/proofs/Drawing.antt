@@ -27,11 +27,11 @@ ordinal_inside o p e = rw e
 pub around_none : (rows : Rows) (outers : List Resources) (ordinal : ℕ) → ordinal ≡ 0 → no_resource ≡ around_in rows outers ordinal
 around_none rows outers ordinal e = rw e
 
-pub around-more
+pub around_more
     : (rows : Rows) (masks : List ℕ) (r : Resources) (ordinal : ℕ) → (ordinal ≡ 0 → ⊥) → ordinal ≤ 12
     → r ≡ with (resources_of (get_or masks (ordinal - 1) 0)) (resource_in rows (ordinal - 1)) → r ≡ around_in rows (sets_of masks) ordinal
-around-more rows masks r zero n l e = absurd (n refl)
-around-more rows masks r (suc p) n l e = (rw sub-one at e) ∙ ap (λ o. with o (resource_in rows p)) (sym (sets_at masks p (omega arith)))
+around_more rows masks r zero n l e = absurd (n refl)
+around_more rows masks r (suc p) n l e = (rw sub-one at e) ∙ ap (λ o. with o (resource_in rows p)) (sym (sets_at masks p (omega arith)))
 
 parent_ordinal : (o : Parent) → parent_of (ordinal_of_parent o) ≡ o
 parent_ordinal Outermost = refl

@@ -15,15 +15,15 @@ module _ (join : ℕ → Weighed → Weighed → Weighed) where
 
   module _ (give : ℕ → Weighed) where
     -- turns from i on that leave all as it is
-    pub gathered-past
+    pub gathered_past
         : (i n : ℕ) → i ≤ n → ((j : ℕ) → i ≤ j → j < n → join j (gathered join give j) (give j) ≡ gathered join give j)
         → gathered join give n ≡ gathered join give i
     unfolding gathered
-    gathered-past i zero l idle = let e : 0 ≡ i = omega arith in ap (gathered join give) e
-    gathered-past i (suc n) l idle =
+    gathered_past i zero l idle = let e : 0 ≡ i = omega arith in ap (gathered join give) e
+    gathered_past i (suc n) l idle =
         ⊎_elim
         (λ (e : i ≡ suc n). ap (gathered join give) (sym e))
-        (λ (m : i < suc n). idle n (omega arith) (omega arith) ∙ gathered-past i n (omega arith) (λ j h k. idle j h (omega arith)))
+        (λ (m : i < suc n). idle n (omega arith) (omega arith) ∙ gathered_past i n (omega arith) (λ j h k. idle j h (omega arith)))
         (eq-or-lt_of_le l)
 
     -- turns that give nothing

@@ -10,8 +10,8 @@ use borrow.Author.Tests.{ltb-true, lt-ltb, eqb-true}
 use Rattle.laws.specs.Tests.{bit}
 use Rattle.laws.specs.Loops.{count_to}
 use Rattle.laws.proofs.Cases.{split, holds_fails, and_left, and_right, and_both}
-use Rattle.laws.proofs.Count.{count_mono, count-but-one}
-use Rattle.laws.proofs.Fold.{fold-keeps}
+use Rattle.laws.proofs.Count.{count_mono, count_but_one}
+use Rattle.laws.proofs.Fold.{fold_keeps}
 use Rattle.laws.proofs.Lists.{get_d_set, replicate_at}
 use Rattle.bound.specs.declared.Parent.{Parent}
 use Rattle.bound.specs.declared.Parent.TheVariants.{Inside}
@@ -21,7 +21,7 @@ use Rattle.bound.specs.Table.{section_at, outer}
 use Rattle.bound.specs.Interference.{Calculation, weighing_if, weighing, blocker, blockers, ordering, sums, level}
 use Rattle.bound.proofs.Accepted.{Accepted}
 use Rattle.bound.proofs.Gathered.{enough}
-use Rattle.bound.proofs.Orders.{remain, order-none, order_same, order_more}
+use Rattle.bound.proofs.Orders.{remain, order_none, order_same, order_more}
 use Rattle.bound.proofs.Depths.{Sums-none}
 
 unfoldable pub is_outside : Sections → Tasks → ℕ → Bool
@@ -36,7 +36,7 @@ pub outside_with : (s : Sections) (b : Tasks) (x : ℕ) → length b ≡ 6 → x
 unfolding is_outside
 outside_with s b x six l e =
     let gone : bit (is_outside s (with b x) x) ≡ 0 = rw (get_or-set_same b x true false (omega arith), and-false) in
-    omega (arith, ap bit e, count-but-one 6 x (is_outside s (with b x)) (is_outside s b) l (λ j m d. rw (get_or-set_other b x j true false d)))
+    omega (arith, ap bit e, count_but_one 6 x (is_outside s (with b x)) (is_outside s b) l (λ j m d. rw (get_or-set_other b x j true false d)))
 
 module _ (s : Sections) (good : Accepted s) where
   pub outside_six : (b : Tasks) (x : ℕ) → is_outside s b x ≡ true → x < 6
@@ -67,7 +67,7 @@ module _ (s : Sections) (good : Accepted s) where
   blockers_found : (q : ℕ) (b : Tasks) → Found b (blockers s q b)
   unfolding blockers
   blockers_found q b =
-      fold-keeps (Found b) (blocker s q b) s.count (found_turn q b) no_task
+      fold_keeps (Found b) (blocker s q b) s.count (found_turn q b) no_task
       (record { six = refl; each = λ x e. holds_fails e (replicate_at 6 x false) })
 
   pub blockers_six : (q : ℕ) (b : Tasks) → length (blockers s q b) ≡ 6
@@ -95,20 +95,20 @@ module _ (s : Sections) (good : Accepted s) where
       ∙ order_same s q b (weighing f s) (weighing g s) n (blockers s q b) entry found.six
       (λ i l h hold. weighing_same f g b hold i (λ p r. e _ p r (found.each _ h)))
 
-  level-step
+  level_step
       : (left : ℕ) (b : Tasks) (t : ℕ) (p : Parent) (r : Resources) → length b ≡ 6 → outside s b ≤ left
       → level left 12 s b t p r ≡ level (suc left) 12 s b t p r
   unfolding level ordering
-  level-step zero b t p r six h =
-      sym (Sums-none s t _ 12 p r (λ q entry. order-none s q b _ 1 (blockers s q b) entry (omega (arith, blockers_most q b))))
-  level-step (suc left) b t p r six h =
+  level_step zero b t p r six h =
+      sym (Sums-none s t _ 12 p r (λ q entry. order_none s q b _ 1 (blockers s q b) entry (omega (arith, blockers_most q b))))
+  level_step (suc left) b t p r six h =
       ap (λ ordered. sums 12 ordered s t p r)
       (fun_ext (λ q. fun_ext (λ entry.
       ordering_same (level left 12 s) (level (suc left) 12 s) (suc left) (suc (suc left)) b q entry h (omega arith)
-      (λ x o w e. level-step left (with b x) x o w (length-set b x true ∙ six) (omega (arith, outside_with s b x six (outside_six b x e) e))))))
+      (λ x o w e. level_step left (with b x) x o w (length-set b x true ∙ six) (omega (arith, outside_with s b x six (outside_six b x e) e))))))
 
   -- `left` at least the tasks outside B
-  pub level-more
+  pub level_more
       : (left : ℕ) (b : Tasks) (t : ℕ) (p : Parent) (r : Resources) → length b ≡ 6 → outside s b ≤ left
       → level left 12 s b t p r ≡ level (outside s b) 12 s b t p r
-  level-more left b t p r six = enough (λ k. level k 12 s b t p r) (outside s b) (λ k. level-step k b t p r six) left
+  level_more left b t p r six = enough (λ k. level k 12 s b t p r) (outside s b) (λ k. level_step k b t p r six) left

@@ -11,7 +11,7 @@ use borrow.Author.Tests.{eqb-true}
 use Rattle.laws.specs.Tests.{bit}
 use Rattle.laws.specs.Loops.{count_to}
 use Rattle.laws.proofs.Cases.{split, holds_fails}
-use Rattle.laws.proofs.Count.{zero_count, count-but-one}
+use Rattle.laws.proofs.Count.{zero_count, count_but_one}
 use Rattle.laws.proofs.Lists.{get_d_set}
 use Rattle.bound.specs.declared.Sections.{Sections}
 use Rattle.bound.specs.Sets.{Tasks, Resources, has, without}
@@ -33,14 +33,14 @@ without_has xs x y l e =
 pub remain_without : (xs : Tasks) (x : ℕ) → length xs ≡ 6 → x < 6 → has xs x ≡ true → remain (without xs x) + 1 ≡ remain xs
 remain_without xs x six l e =
     let gone : bit (has (without xs x) x) ≡ 0 = ap bit (get_or-set_same xs x false false (omega arith)) in
-    omega (arith, ap bit e, count-but-one 6 x (has (without xs x)) (has xs) l (λ j m d. get_or-set_other xs x j false false d))
+    omega (arith, ap bit e, count_but_one 6 x (has (without xs x)) (has xs) l (λ j m d. get_or-set_other xs x j false false d))
 
 -- a task's best depends on how its own sections weigh
-best-same
+best_same
     : (f g : ℕ → Weighed) (s : Sections) (q x : ℕ)
     → ((i : ℕ) → i < s.count → (section_at s i).task.0 ≡ x → f i ≡ g i) → best f s q x ≡ best g s q x
 unfolding best weighed_on
-best-same f g s q x e =
+best_same f g s q x e =
     gathered_same first_greatest _ _ s.count
     (λ i l. split (eqb (section_at s i).task.0 x) (λ t. rw (e i l (eqb-true _ _ t))) (λ t. rw t))
 
@@ -55,16 +55,16 @@ module _ (s : Sections) (q : ℕ) (b : Tasks) where
   tried_same f g h k remaining held x same later =
       split
       (has remaining x)
-      (λ e. rw (best-same (f b held) (g b held) s q x (same e), later e (held_after s held (best (g b held) s q x).giver)))
+      (λ e. rw (best_same (f b held) (g b held) s q x (same e), later e (held_after s held (best (g b held) s q x).giver)))
       (λ e. rw e)
 
   -- no task remains
-  pub order-none
+  pub order_none
       : (weigh : Weighing) (left : ℕ) (remaining : Tasks) (held : Resources)
       → remain remaining ≡ 0 → order left weigh s q b remaining held ≡ nothing
   unfolding order tried_next
-  order-none weigh zero remaining held e = refl
-  order-none weigh (suc left) remaining held e = Gathered-none _ _ 6 (λ x. refl) (λ x l. rw (zero_count 6 x (has remaining) e l))
+  order_none weigh zero remaining held e = refl
+  order_none weigh (suc left) remaining held e = Gathered-none _ _ 6 (λ x. refl) (λ x l. rw (zero_count 6 x (has remaining) e l))
 
   -- the remaining tasks' sections weigh the same
   pub order_same
@@ -86,7 +86,7 @@ module _ (s : Sections) (q : ℕ) (b : Tasks) where
   order_step : (weigh : Weighing) (left : ℕ) (remaining : Tasks) (held : Resources) → length remaining ≡ 6 → remain remaining ≤ left
       → order left weigh s q b remaining held ≡ order (suc left) weigh s q b remaining held
   unfolding order
-  order_step weigh zero remaining held six h = sym (order-none weigh 1 remaining held (omega arith))
+  order_step weigh zero remaining held six h = sym (order_none weigh 1 remaining held (omega arith))
   order_step weigh (suc left) remaining held six h =
       gathered_same _ _ _ 6
       (λ x l.

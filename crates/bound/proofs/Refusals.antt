@@ -32,30 +32,30 @@ module _ (s : Sections) (i : ℕ) where
   unfolding section_fits first_of
   numbers_tell e = rw e
 
-  pub parent-tells
+  pub parent_tells
       : (o : Parent) → numbers_fit ≡ true → (section_at s i).parent ≡ o
       → verdict (first_of (41 when not (parent_fits s i o) or 42 when not (above s (section_at s i).resource o) or accepted)) ≡ verdict (first_of (section_tests s i))
   unfolding section_fits
-  parent-tells o e d = rw (e, d)
+  parent_tells o e d = rw (e, d)
 
 -- 42, once the parent is an earlier section of the same task
-pub above-tells
+pub above_tells
     : (earlier same below : Bool) → earlier ≡ true → same ≡ true
     → refused_if 42 below ≡ verdict (first_of (41 when not (earlier && same) or 42 when below or accepted))
 unfolding first_of
-above-tells earlier same below e d = rw (e, d) (verdict_if 42 below)
+above_tells earlier same below e d = rw (e, d) (verdict_if 42 below)
 
 -- a turn of the tests of all sections
-pub refusal-turn
+pub refusal_turn
     : (s : Sections) (i : ℕ) (earlier new r : Verdict) → earlier ≡ verdict (fold_to i (section_refusal s) none) → new ≡ verdict (first_of (section_tests s i))
     → r ≡ first_refused earlier new → r ≡ verdict (fold_to (i + 1) (section_refusal s) none)
 unfolding fold_to section_refusal
-refusal-turn s i earlier new r e d h = rw add-one (h ∙ ap₂ first_refused e d ∙ verdict_or (fold_to i (section_refusal s) none) _)
+refusal_turn s i earlier new r e d h = rw add-one (h ∙ ap₂ first_refused e d ∙ verdict_or (fold_to i (section_refusal s) none) _)
 
-pub refusals-done
+pub refusals_done
     : (s : Sections) (i n : ℕ) (v : Verdict) → i ≤ n → n ≤ i
     → v ≡ verdict (fold_to i (section_refusal s) none) → v ≡ verdict (fold_to n (section_refusal s) none)
-refusals-done s = turns_done (λ j. verdict (fold_to j (section_refusal s) none))
+refusals_done s = turns_done (λ j. verdict (fold_to j (section_refusal s) none))
 
 module _ (s : Sections) where
   pub counts_tell : counts_fit s ≡ false → Refused 40 ≡ verdict (table_refusal s)
@@ -66,21 +66,21 @@ module _ (s : Sections) where
   counts_most e = leb-true _ _ (and_right (leb 1 s.tasks && leb s.tasks 6) _ e)
 
   -- 41 to 43, where the counts fit
-  pub sections-tell
+  pub sections_tell
       : (sections children : Verdict) (all : Bool) → counts_fit s ≡ true → sections ≡ verdict (fold_to s.count (section_refusal s) none)
       → all ≡ all_to s.count (children_fit s) → children ≡ refused_if 43 (not all) → first_refused sections children ≡ verdict (table_refusal s)
   unfolding table_refusal first_of
-  sections-tell sections children all fit found each late =
+  sections_tell sections children all fit found each late =
       ap₂ first_refused found (late ∙ verdict_if 43 (not all) ∙ ap (λ b. verdict (first_of (43 when not b or accepted))) each)
       ∙ verdict_or (fold_to s.count (section_refusal s) none) (first_of (43 when not (all_to s.count (children_fit s)) or accepted)) ∙ rw fit
 
   -- 40 to 45
-  pub question-tells
+  pub question_tells
       : (t allowance : ℕ) (table task most rest : Verdict) → table ≡ verdict (table_refusal s) → task ≡ refused_if 44 (not (ltb t s.tasks))
       → most ≡ refused_if 45 (not (leb 1 allowance && leb allowance 1000000)) → rest ≡ first_refused task most
       → first_refused table rest ≡ verdict (refusal s t allowance)
   unfolding refusal
-  question-tells t allowance table task most rest found e d f =
+  question_tells t allowance table task most rest found e d f =
       ap₂ first_refused found
       (f ∙ ap₂ first_refused (e ∙ verdict_if 44 _) (d ∙ verdict_if 45 _) ∙ verdict_or (first_of (44 when not (ltb t s.tasks) or accepted)) _
       ∙ ap verdict (one_by_one 44 (not (ltb t s.tasks)) (45 when not (leb 1 allowance && leb allowance 1000000) or accepted)))

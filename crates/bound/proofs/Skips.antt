@@ -15,7 +15,7 @@ use Rattle.bound.specs.Sets.{Resources}
 use Rattle.bound.specs.Table.{section_at, directly_in}
 use Rattle.bound.specs.Interference.{Weighed, weighed, both, gathered, is_on, weighed_on, first_greatest, best, is_in, sum_over}
 use Rattle.bound.specs.Computed.{Rows, Spans, on_span, in_span, from_in, end_in, parent_of, parent_in, task_in, resource_in, Covers, Spanned, Drawn, spend}
-use Rattle.bound.proofs.Gathered.{gathered-past}
+use Rattle.bound.proofs.Gathered.{gathered_past}
 use Rattle.bound.proofs.Turns.{nothing_of}
 use Rattle.bound.proofs.Steps.{ordinal_test}
 
@@ -48,16 +48,16 @@ module _ (s : Sections) (rows : Rows) (spans : Spans) (count : ℕ) (drawn : Dra
           let most = spanned.end_most (on_span x q) in
           let order = spanned.in_order (on_span x q) in
           nothing_of a
-          ∙ ap (λ w. spend w a) (sym (gathered-past first_greatest _ 0 from (omega arith) (λ j z l. idle_best j _ (omega arith) (inl (omega arith)))))
+          ∙ ap (λ w. spend w a) (sym (gathered_past first_greatest _ 0 from (omega arith) (λ j z l. idle_best j _ (omega arith) (inl (omega arith)))))
 
-      pub best-to
+      pub best_to_lem
           : (i end : ℕ) → end ≡ end_in spans (on_span x q) → i ≤ end → end ≤ i
           → gathered first_greatest (weighed_on weigh s q x) i ≡ best weigh s q x
       unfolding best
-      best-to i end e l m =
+      best_to_lem i end e l m =
           let most = spanned.end_most (on_span x q) in
           let size = drawn.count_is in
-          sym (gathered-past first_greatest _ i s.count (omega arith) (λ j h k. idle_best j _ (omega arith) (inr (omega arith))))
+          sym (gathered_past first_greatest _ i s.count (omega arith) (λ j h k. idle_best j _ (omega arith) (inr (omega arith))))
 
   module _ (t ordinal : ℕ) where
     not_in : (c : ℕ) → c < count → Outside (in_span ordinal) c → is_in s t (parent_of ordinal) c ≡ false
@@ -72,19 +72,19 @@ module _ (s : Sections) (rows : Rows) (spans : Spans) (count : ℕ) (drawn : Dra
       abbrev added : ℕ → Weighed
       added = sum_over ordered same s t (parent_of ordinal) r
 
-      idle-sum
+      idle_sum
           : (j n : ℕ) → j < count → Outside (in_span ordinal) j
           → both (gathered (λ c. both) added n) (added j) ≡ gathered (λ c. both) added n
       unfolding sum_over gathered
-      idle-sum j zero l h = rw (not_in j l h)
-      idle-sum j (suc n) l h = rw (not_in j l h) (ap₂ (λ v w. weighed v none w) (omega arith) (omega arith))
+      idle_sum j zero l h = rw (not_in j l h)
+      idle_sum j (suc n) l h = rw (not_in j l h) (ap₂ (λ v w. weighed v none w) (omega arith) (omega arith))
 
       pub sum_from : (from a : ℕ) → from ≡ from_in spans (in_span ordinal) → Of 0 0 a ≡ spend (gathered (λ c. both) added from) a
       unfolding gathered
       sum_from from a e =
           let most = spanned.end_most (in_span ordinal) in
           let order = spanned.in_order (in_span ordinal) in
-          nothing_of a ∙ ap (λ w. spend w a) (sym (gathered-past (λ c. both) added 0 from (omega arith) (λ j z l. idle-sum j j (omega arith) (inl (omega arith)))))
+          nothing_of a ∙ ap (λ w. spend w a) (sym (gathered_past (λ c. both) added 0 from (omega arith) (λ j z l. idle_sum j j (omega arith) (inl (omega arith)))))
 
       pub sum_to
           : (i end : ℕ) → end ≡ end_in spans (in_span ordinal) → i ≤ end → end ≤ i
@@ -92,4 +92,4 @@ module _ (s : Sections) (rows : Rows) (spans : Spans) (count : ℕ) (drawn : Dra
       sum_to i end e l m =
           let most = spanned.end_most (in_span ordinal) in
           let size = drawn.count_is in
-          sym (gathered-past (λ c. both) added i s.count (omega arith) (λ j h k. idle-sum j j (omega arith) (inr (omega arith))))
+          sym (gathered_past (λ c. both) added i s.count (omega arith) (λ j h k. idle_sum j j (omega arith) (inr (omega arith))))

@@ -107,11 +107,11 @@ spans_more rows spans count i ranged l b =
     }
 
 -- the same from what the code has found
-pub spans-turn
+pub spans_turn
     : (rows : Rows) (spans : Spans) (count i : ℕ) → Ranged rows count → i < count → Begun rows spans i
     → (k j : ℕ) (w v : List ℕ) → k ≡ on_span (task_in rows i) (resource_in rows i) → w ≡ widened (get_or spans k []) i
     → j ≡ in_span (parent_in rows i) → v ≡ widened (get_or (set spans k w) j []) i → Begun rows (set (set spans k w) j v) (i + 1)
-spans-turn rows spans count i ranged l b k j w v ek ew ej ev = rw (ev, ew, ek, ej) (spans_more rows spans count i ranged l b)
+spans_turn rows spans count i ranged l b k j w v ek ew ej ev = rw (ev, ew, ek, ej) (spans_more rows spans count i ranged l b)
 
 pub spans_done : (rows : Rows) (spans : Spans) (i count : ℕ) → i ≤ count → count ≤ i → Begun rows spans i → Spanned rows spans count
 spans_done rows spans i count l m b =

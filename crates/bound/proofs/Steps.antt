@@ -21,18 +21,18 @@ use Rattle.bound.specs.Table.{section_at, outer, directly_in}
 use Rattle.bound.specs.Interference.{Weighed, weighed, both, larger, gathered, Calculation, Weighing, weighing_if, weighing, is_on, weighed_on, first_greatest, best, held_after, tried_next, order, blocker, blockers, ordering, is_in, sum_over, sums, level}
 use Rattle.bound.specs.Computed.{resources_of, sets_of, Rows, task_in, resource_in, length_in, parent_in, parent_of, ordinal_of, held_by, Drawn, Shown, spend, Grown, Fair}
 use Rattle.bound.proofs.Masks.{sets_at}
-use Rattle.bound.proofs.Turns.{lasted, exceeds, nothing_of, one_of, turn-out}
+use Rattle.bound.proofs.Turns.{lasted, exceeds, nothing_of, one_of, turn_out}
 
 -- a store that keeps what was there unless y holds
 store_or : (xs : List Bool) (i : ℕ) (y : Bool) → set xs i (get_or xs i false || y) ≡ (if y then set xs i true else xs)
 store_or xs i true = split (get_or xs i false) (λ e. rw e) (λ e. rw e)
 store_or xs i false = split (get_or xs i false) (λ e. rw e (ap (set xs i) (sym e) ∙ set-get_or xs i false)) (λ e. rw e (ap (set xs i) (sym e) ∙ set-get_or xs i false))
 
-pub blocker-turn
+pub blocker_turn
     : (s : Sections) (rows : Rows) (count q : ℕ) (b found : Tasks) (i : ℕ) → Drawn s rows count → i < count
     → let x = task_in rows i in set found x (get_or found x false || (eqb (resource_in rows i) q && not (get_or b x false))) ≡ blocker s q b i found
 unfolding blocker
-blocker-turn s rows count q b found i d l = rw (d.task_is i l, d.resource_is i l) (store_or found _ _)
+blocker_turn s rows count q b found i d l = rw (d.task_is i l, d.resource_is i l) (store_or found _ _)
 
 -- what joins Held
 pub held_none : (outers : List Resources) (held : Resources) (giver : ℕ) → giver ≡ 0 → held ≡ held_by outers held giver
@@ -96,11 +96,11 @@ module _ (s : Sections) (rows : Rows) (masks : List ℕ) (count : ℕ) (shown : 
         unfolding weighed_on weighing_if
         weigh_met a some_left e = rw (is_on_lem, met, e) (one_of 0 a some_left)
 
-        pub weigh-is
+        pub weigh_is
             : m ≡ false → (wider : Tasks) (joint : Resources) → wider ≡ with b x → joint ≡ joined held (resources_of (get_or masks i 0))
             → weight ≡ both (weighed (length_in rows i) none 1) (same wider x (parent_of (i + 1)) joint)
         unfolding weighed_on weighing_if
-        weigh-is apart wider joint wider-is joint-is =
+        weigh_is apart wider joint wider-is joint-is =
             let own : (section_at s i).task.0 ≡ x = eqb-true _ _ (and_left _ _ is_on_lem) in
             rw (is_on_lem, met, apart, own, wider-is, joint-is, outer_at i l few, add-one, shown.drawn.length_is i l)
 
@@ -114,11 +114,11 @@ module _ (s : Sections) (rows : Rows) (masks : List ℕ) (count : ℕ) (shown : 
     unfolding tried_next
     tried_starts = rw there
 
-    pub tried-is
+    pub tried_is
         : (a v u l : ℕ) → Of v u l ≡ spend next a → u ≤ count
         → (fewer : Tasks) (holding : Resources) → fewer ≡ without remaining x → holding ≡ held_by (sets_of masks) held u
         → tried_next weigh after s q b remaining held x ≡ both next (after b fewer holding)
-    tried-is a v u l found m fewer holding fewer-is holding-is =
+    tried_is a v u l found m fewer holding fewer-is holding-is =
         tried_starts ∙ sym (rw (fewer-is, holding-is, held_is held u next.giver m (lasted next a v u l found).giver_is))
 
   -- a section of the sum
@@ -135,34 +135,34 @@ module _ (s : Sections) (rows : Rows) (masks : List ℕ) (count : ℕ) (shown : 
     sum_is_lem inside wider wider-is = rw (in_is c t ordinal y l test, inside, wider-is, shown.drawn.resource_is c l, add-one)
 
 -- a section that exceeds the allowance
-pub best-exceeds
+pub best_exceeds
     : (s : Sections) (weigh : ℕ → Weighed) (q x a i v u l count : ℕ) → count ≡ s.count → i < count
     → Of v u l ≡ spend (gathered first_greatest (weighed_on weigh s q x) i) a → Exceeded ≡ spend (weighed_on weigh s q x i) l
     → Exceeded ≡ spend (best weigh s q x) a
 unfolding best
-best-exceeds s weigh q x a i v u l count size m = turn-out first_greatest (λ j y z. refl) _ a i s.count v u l (omega arith)
+best_exceeds s weigh q x a i v u l count size m = turn_out first_greatest (λ j y z. refl) _ a i s.count v u l (omega arith)
 
 -- the calculations as the code calls them: with something left, and with nothing
 module _ (weigh : Weighing) (s : Sections) (q : ℕ) (b remaining : Tasks) (held : Resources) where
-  pub order-made
+  pub order_made
       : (left : ℕ) → (left ≡ 0 → ⊥)
       → gathered (λ x. larger) (tried_next weigh (order (left - 1) weigh s q) s q b remaining held) 6 ≡ order left weigh s q b remaining held
   unfolding order
-  order-made zero n = absurd (n refl)
-  order-made (suc left) n = rw sub-one
+  order_made zero n = absurd (n refl)
+  order_made (suc left) n = rw sub-one
 
   pub order_ends : (left a : ℕ) → left ≡ 0 → Of 0 0 a ≡ spend (order left weigh s q b remaining held) a
   unfolding order
   order_ends left a e = rw e (nothing_of a)
 
 module _ (s : Sections) (b : Tasks) (t : ℕ) (p : Parent) (r : Resources) where
-  pub sum-made
+  pub sum_made
       : (left depth : ℕ) → (left ≡ 0 → ⊥) → (depth ≡ 0 → ⊥)
       → gathered (λ c. both) (sum_over (ordering left (level (left - 1) 12 s) s b) (level left (depth - 1) s b t) s t p r) s.count ≡ level left depth s b t p r
   unfolding level sums
-  sum-made zero depth z y = absurd (z refl)
-  sum-made (suc left) zero z y = absurd (y refl)
-  sum-made (suc left) (suc depth) z y = rw (sub-one, sub-one)
+  sum_made zero depth z y = absurd (z refl)
+  sum_made (suc left) zero z y = absurd (y refl)
+  sum_made (suc left) (suc depth) z y = rw (sub-one, sub-one)
 
   pub sum_alone : (left depth a : ℕ) → left ≡ 0 → Of 0 0 a ≡ spend (level left depth s b t p r) a
   unfolding level
@@ -180,11 +180,11 @@ unfolding ordering
 own_is left same s b found q entry e = rw e
 
 -- a turn that gives nothing
-pub order-skips
+pub order_skips
     : (weigh : Weighing) (after : Tasks → Tasks → Resources → Weighed) (s : Sections) (q : ℕ) (b remaining : Tasks) (held : Resources) (x a : ℕ)
     → has remaining x ≡ false → Of 0 0 a ≡ spend (tried_next weigh after s q b remaining held x) a
 unfolding tried_next
-order-skips weigh after s q b remaining held x a gone = rw gone (nothing_of a)
+order_skips weigh after s q b remaining held x a gone = rw gone (nothing_of a)
 
 -- all turns are done
 pub turns_all : (join : ℕ → Weighed → Weighed → Weighed) (give : ℕ → Weighed) (i : ℕ) → i ≤ 6 → 6 ≤ i → gathered join give i ≡ gathered join give 6

@@ -69,9 +69,9 @@ one_of v a n = lasts _ a v 0 (a - 1) (record { enough = omega (arith, n); value_
 
 -- two calculations one after the other on one allowance, of which w is made: the weighings add up
 module _ (a : ℕ) (first second w : Weighed) (sum : w.weighings ≡ first.weighings + second.weighings) where
-  pub then-of
+  pub then_of
       : (x p l y q m v u : ℕ) → Of x p l ≡ spend first a → Of y q m ≡ spend second l → v ≡ w.value → u ≡ ordinal_of w.giver → Of v u m ≡ spend w a
-  then-of x p l y q m v u e d ev eu =
+  then_of x p l y q m v u e d ev eu =
       let h = lasted first a x p l e in
       let k = lasted second l y q m d in
       lasts w a v u m (record { enough = omega arith; value_is = ev; giver_is = eu; left_is = omega arith })
@@ -90,7 +90,7 @@ module _ (a : ℕ) (first second w : Weighed) (is : w ≡ both first second) whe
 
   pub both_of : (x p l y q m : ℕ) → Of x p l ≡ spend first a → Of y q m ≡ spend second l → Of (x + y) 0 m ≡ spend w a
   both_of x p l y q m e d =
-      then-of a first second w sum x p l y q m (x + y) 0 e d
+      then_of a first second w sum x p l y q m (x + y) 0 e d
       (ap₂ (λ n k. n + k) (lasted first a x p l e).value_is (lasted second l y q m d).value_is ∙ ap (λ o. o.value) (sym is))
       (ap (λ o. ordinal_of o.giver) (sym is))
 
@@ -113,34 +113,34 @@ module _ (join : ℕ → Weighed → Weighed → Weighed) (sums : (i : ℕ) (x y
       (eq-or-lt_of_le l)
 
   -- turn i exceeds the allowance, and so do all
-  pub turn-out
+  pub turn_out
       : (a i n v u l : ℕ) → i < n → Of v u l ≡ spend (gathered join give i) a → Exceeded ≡ spend (give i) l → Exceeded ≡ spend (gathered join give n) a
   unfolding gathered
-  turn-out a i n v u l m e d =
+  turn_out a i n v u l m e d =
       let now = exceeded _ a (then_later a _ _ (gathered join give (suc i)) (sums i (gathered join give i) (give i)) v u l e d) in
       exceeds _ a (omega (arith, now, grows (suc i) n m))
 
   -- turn i lasts
-  turn-of
+  turn_of_lem
       : (a i v u l y p k v' u' : ℕ) → Of v u l ≡ spend (gathered join give i) a → Of y p k ≡ spend (give i) l
       → v' ≡ (join i (gathered join give i) (give i)).value → u' ≡ ordinal_of (join i (gathered join give i) (give i)).giver
       → Of v' u' k ≡ spend (gathered join give (i + 1)) a
   unfolding gathered
-  turn-of a i v u l y p k v' u' e d ev eu = rw add-one (then-of a _ _ _ (sums i (gathered join give i) (give i)) v u l y p k v' u' e d ev eu)
+  turn_of_lem a i v u l y p k v' u' e d ev eu = rw add-one (then_of a _ _ _ (sums i (gathered join give i) (give i)) v u l y p k v' u' e d ev eu)
 
 module _ (give : ℕ → Weighed) (a i v u l y p k : ℕ) (made : Of y p k ≡ spend (give i) l) where
   -- a sum: one section more
   pub sum_goes : Of v u l ≡ spend (gathered (λ c. both) give i) a → Of (v + y) 0 k ≡ spend (gathered (λ c. both) give (i + 1)) a
   sum_goes e =
-      turn-of (λ c. both) (λ c x z. refl) give a i v u l y p k (v + y) 0 e made
+      turn_of_lem (λ c. both) (λ c x z. refl) give a i v u l y p k (v + y) 0 e made
       (ap₂ (λ n m. n + m) (lasted _ a v u l e).value_is (lasted _ l y p k made).value_is) refl
 
   -- the largest of the orders: one task more
-  pub order-goes
+  pub order_goes
       : (m : ℕ) → m ≡ (if ltb v y then y else v)
       → Of v u l ≡ spend (gathered (λ x. larger) give i) a → Of m 0 k ≡ spend (gathered (λ x. larger) give (i + 1)) a
-  order-goes m is e =
-      turn-of (λ x. larger) (λ x z w. refl) give a i v u l y p k m 0 e made
+  order_goes m is e =
+      turn_of_lem (λ x. larger) (λ x z w. refl) give a i v u l y p k m 0 e made
       (is ∙ ap₂ (λ n w. if ltb n w then w else n) (lasted _ a v u l e).value_is (lasted _ l y p k made).value_is) refl
 
   -- the first of the greatest: it is greater, or it is not
@@ -154,9 +154,9 @@ module _ (give : ℕ → Weighed) (a i v u l y p k : ℕ) (made : Of y p k ≡ s
     pub best_greater : v < y → v' ≡ y → u' ≡ i + 1 → Of v' u' k ≡ spend (gathered first_greatest give (i + 1)) a
     best_greater h ev eu =
         let better = lt-ltb (gathered first_greatest give i).value (give i).value (omega (arith, value_was, value_now)) in
-        turn-of first_greatest (λ j x z. refl) give a i v u l y p k v' u' e made (rw better (ev ∙ value_now)) (rw better (eu ∙ add-one i))
+        turn_of_lem first_greatest (λ j x z. refl) give a i v u l y p k v' u' e made (rw better (ev ∙ value_now)) (rw better (eu ∙ add-one i))
 
     pub best_stays : y ≤ v → v' ≡ v → u' ≡ u → Of v' u' k ≡ spend (gathered first_greatest give (i + 1)) a
     best_stays h ev eu =
         let worse = le-ltb (gathered first_greatest give i).value (give i).value (omega (arith, value_was, value_now)) in
-        turn-of first_greatest (λ j x z. refl) give a i v u l y p k v' u' e made (rw worse (ev ∙ value_was)) (rw worse (eu ∙ (lasted _ a v u l e).giver_is))
+        turn_of_lem first_greatest (λ j x z. refl) give a i v u l y p k v' u' e made (rw worse (ev ∙ value_was)) (rw worse (eu ∙ (lasted _ a v u l e).giver_is))

@@ -18,8 +18,8 @@ use Rattle.bound.specs.Interference.{Weighed, Calculation, both, larger, gathere
 use Rattle.bound.proofs.Accepted.{Accepted}
 use Rattle.bound.proofs.Gathered.{gathered_same}
 use Rattle.bound.proofs.Orders.{remain, remain_without, tried_same, order_more}
-use Rattle.bound.proofs.Depths.{nesting, over-same, depth_more}
-use Rattle.bound.proofs.Levels.{is_outside, outside, outside_with, outside_six, ordering_same, level-more, blockers_six, blockers_most}
+use Rattle.bound.proofs.Depths.{nesting, over_same, depth_more}
+use Rattle.bound.proofs.Levels.{is_outside, outside, outside_with, outside_six, ordering_same, level_more, blockers_six, blockers_most}
 
 -- the interference sum
 unfoldable pub interference : Sections → Calculation
@@ -61,14 +61,14 @@ module _ (s : Sections) (good : Accepted s) (b : Tasks) (six : length b ≡ 6) w
       ∙ sym (depth_more s t good (ordering turns (level left 12 s) s b) 12 p r (nesting_most s good p))
       ∙ ap (λ ordered. sums 12 ordered s t p r)
       (fun_ext (λ q. fun_ext (λ entry. ordering_same s good (level left 12 s) (level left 12 s) turns (suc left) b q entry j h (λ x o w e. refl))))
-      ∙ level-more s good (suc left) b t p r six h
+      ∙ level_more s good (suc left) b t p r six h
 
   value_is : (q : ℕ) (entry : Resources) → ordering (outside s b) (level (outside s b) 12 s) s b q entry ≡ ordering_value s b q entry
   unfolding interference orders ordering
   value_is q entry =
       ordering_same s good (level (outside s b) 12 s) (interference s) (outside s b) (outside s b) b q entry (omega arith) (omega arith)
       (λ x p r e.
-      level-more s good (outside s b) (with b x) x p r (length-set b x true ∙ six)
+      level_more s good (outside s b) (with b x) x p r (length-set b x true ∙ six)
       (omega (arith, outside_with s b x six (outside_six s good b x e) e)))
       ∙ order_more s q b (weighing (interference s) s) (outside s b) (blockers s q b) entry (blockers_six s good q b) (blockers_most s good q b)
 
@@ -81,7 +81,7 @@ module _ (s : Sections) (good : Accepted s) (b : Tasks) (six : length b ≡ 6) w
       sym (numbers_more (outside s b) (outside s b) 13 t p r (omega arith) (omega arith) (omega arith))
       ∙ gathered_same _ _ _ s.count
       (λ c l.
-      over-same s t _ _ _ _ p r c value_is
+      over_same s t _ _ _ _ p r c value_is
       (λ e wider. numbers_more (outside s b) (outside s b) 12 t (Inside c) wider (omega arith) (omega arith) (nesting_most s good (Inside c))))
 
 -- B with no task in it leaves all outside
@@ -100,4 +100,4 @@ unfolding bound interference is_outside
 bound_is s good t l =
     let there : is_outside s no_task t ≡ true = and_both _ _ (lt-ltb t s.tasks l) (rw (replicate_at 6 t false)) in
     let fewer = outside_with s no_task t refl (omega (arith, good.tasks_most)) there in
-    level-more s good (s.tasks - 1) (with no_task t) t Outermost no_resource (length-set no_task t true) (omega (arith, outside_none s 6, good.tasks_most))
+    level_more s good (s.tasks - 1) (with no_task t) t Outermost no_resource (length-set no_task t true) (omega (arith, outside_none s 6, good.tasks_most))

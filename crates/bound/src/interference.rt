@@ -53,7 +53,7 @@ fn held_after(outer: &[u16; SECTIONS], held: u16, giver: usize) -> u16
     sets::joined(held, outer[giver - 1])
 }
 
-// Who has a section on the resource and is not in B (`Steps.blocker-turn`).
+// Who has a section on the resource and is not in B (`Steps.blocker_turn`).
 fn blockers(
     rows: &[[usize; 4]; SECTIONS],
     count: usize,
@@ -72,7 +72,7 @@ fn blockers(
 }
 
 // What section i weighs, if it is the task's on the resource: nothing where its outer resources meet Held, else its length and its
-// children (`Steps.weigh-is`).
+// children (`Steps.weigh_is`).
 #[cycle(first_greatest_interference_sum_largest_order_ordering_value_sum_over_tried_next_weigh)]
 fn weigh(
     rows: &[[usize; 4]; SECTIONS],
@@ -114,7 +114,7 @@ fn weigh(
     Tally::Of(rows[i][LENGTH] as u64 + value, 0, left)
 }
 
-// The first of the greatest of the task's sections on the resource, by number (`Skips.best-to`).
+// The first of the greatest of the task's sections on the resource, by number (`Skips.best_to_lem`).
 #[cycle(first_greatest_interference_sum_largest_order_ordering_value_sum_over_tried_next_weigh)]
 fn first_greatest(
     rows: &[[usize; 4]; SECTIONS],
@@ -151,7 +151,7 @@ fn first_greatest(
     Tally::Of(value, giver, kept)
 }
 
-// The tree of orders (rule 12.8) under this task, which remains and comes next (`Steps.tried-is`).
+// The tree of orders (rule 12.8) under this task, which remains and comes next (`Steps.tried_is`).
 #[cycle(first_greatest_interference_sum_largest_order_ordering_value_sum_over_tried_next_weigh)]
 fn tried_next(
     rows: &[[usize; 4]; SECTIONS],
@@ -191,7 +191,7 @@ fn tried_next(
     Tally::Of(next + later, 0, left)
 }
 
-// The largest sum over the orders of the remaining tasks (`Steps.order-made`).
+// The largest sum over the orders of the remaining tasks (`Steps.order_made`).
 #[cycle(first_greatest_interference_sum_largest_order_ordering_value_sum_over_tried_next_weigh)]
 fn largest_order(
     rows: &[[usize; 4]; SECTIONS],
@@ -296,7 +296,7 @@ fn sum_over(
     Tally::Of(ordered + value, 0, left)
 }
 
-// Rule 12.4, of the task's sections that stand directly in the section of the ordinal (`Skips.sum_to`, `Steps.sum-made`).
+// Rule 12.4, of the task's sections that stand directly in the section of the ordinal (`Skips.sum_to`, `Steps.sum_made`).
 #[cycle(first_greatest_interference_sum_largest_order_ordering_value_sum_over_tried_next_weigh)]
 pub(crate) fn interference_sum(
     rows: &[[usize; 4]; SECTIONS],

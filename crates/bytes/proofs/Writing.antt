@@ -47,10 +47,10 @@ module _ {m n : ℕ} {l k o : List ℕ} {at e f : ℕ} {xs ys : List ℕ} (first
       }
 
 -- one text, then two of which the first belongs to it
-pub wrote-pair
+pub wrote_pair
     : {m n : ℕ} {l k o : List ℕ} {at e f : ℕ} (xs ys zs : List ℕ)
     → Wrote m l at xs k e → Wrote n k e (ys ++ zs) o f → Wrote (m + n) l at (xs ++ ys ++ zs) o f
-wrote-pair xs ys zs first then = rw append_assoc (wrote_then first then)
+wrote_pair xs ys zs first then = rw append_assoc (wrote_then first then)
 
 -- a bound may be larger
 pub wrote_most : {m n : ℕ} {l k : List ℕ} {at e : ℕ} {xs : List ℕ} → m ≤ n → Wrote m l at xs k e → Wrote n l at xs k e
@@ -64,12 +64,12 @@ wrote_as h p q w = rw (← p, ← q) (wrote_most h w)
 pub wrote_start : (l : List ℕ) (at : ℕ) → Wrote 0 l at [] l (at + 0)
 wrote_start l at = rw (add-zero at) (wrote_none l at)
 
-pub wrote-more
+pub wrote_more
     : {l k : List ℕ} {at : ℕ} (i : ℕ) (text : List ℕ)
     → i < length text
     → Wrote i l at (take i text) k (at + i)
     → Wrote (i + 1) l at (take (i + 1) text) (set k (at + i) (get_or text i 0)) (at + (i + 1))
-wrote-more {k = k} {at = at} i text l w = rw (add-one i, take-suc text i 0 l, ← add-one i, ← add_assoc at i 1) (wrote_then w (wrote_byte k (at + i) (get_or text i 0)))
+wrote_more {k = k} {at = at} i text l w = rw (add-one i, take-suc text i 0 l, ← add-one i, ← add_assoc at i 1) (wrote_then w (wrote_byte k (at + i) (get_or text i 0)))
 
 pub wrote_all : {l k : List ℕ} {at : ℕ} (i : ℕ) (text : List ℕ) → i ≤ length text → length text ≤ i → Wrote i l at (take i text) k (at + i) → Wrote (length text) l at text k (at + i)
 wrote_all i text l g w = rw (le_antisymm g l) (rw (take_all i text g) at w)

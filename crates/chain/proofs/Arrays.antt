@@ -141,14 +141,14 @@ module _ (st : State) where
   unfolding owners_of
   owners_read held owners h e = e ∙ ap numbers_of h ∙ numbers_tasks (owner_of st)
 
-  pub runs-for-read
+  pub runs_for_read
       : (ends on : List TaskNo) (runsBy : List ℕ)
       → ends ≡ ends_of st
       → on ≡ on_by st.server st.tasks ends
       → runsBy ≡ numbers_of on
       → runsBy ≡ array_of (runs_for st)
   unfolding on_by
-  runs-for-read ends on runsBy ee o e =
+  runs_for_read ends on runsBy ee o e =
       e ∙ ap numbers_of (o ∙ ap (λ xs. on_by st.server st.tasks xs) ee) ∙ numbers_tasks _ ∙ array_same _ (runs_for st) (on_served st)
 
 -- the walk's two ways out, for the code
@@ -162,13 +162,13 @@ end_more links t zero r f e = absurd (f refl)
 end_more links t (suc left) r f e = e ∙ ap (λ k. end_step (end_by k links) links t) (sub-one (suc left))
 
 -- what a turn of each loop stores at a number in use, for the code
-pub owner-read
+pub owner_read
     : (st : State) (r : ℕ) (v : TaskNo)
     → present st r ≡ true
     → v ≡ record { 0 = (if in_use st.tasks (owner_no (resource_at st r).owner) then owner_no (resource_at st r).owner else nobody) }
     → v ≡ task_of (owner_of st) r
 unfolding task_of owner_of here
-owner-read st r v p e = rw p e
+owner_read st r v p e = rw p e
 
 pub owner_none : (st : State) (r : ℕ) → present st r ≡ false → task_of (owner_of st) r ≡ record { 0 = nobody }
 unfolding task_of

@@ -94,24 +94,24 @@ executing_link st t clear =
     (λ n. rw n)
 
 -- Wake and suspend: only the task's mode is part of a chain
-moded-next
+moded_next
     : (st : State) (ss : List Server) (t : ℕ) (m : Mode)
     → owner_of st (awaited m) ≡ link_of st (task_at st t)
     → (i : ℕ)
     → next (with_task t (with_mode m (task_at st t)) (with_servers ss st)) i ≡ next st i
 unfolding next owner_of present here
-moded-next st ss t m e i =
+moded_next st ss t m e i =
     ap (λ (k : ℕ). if here st i then k else nobody) (kept_under (link_of st) st.task t i (with_mode m (task_at st t)) no_task e)
 
 turned_link : (turn : Turn) (st : State) (t : TaskNo) → Clear st (turn_of turn t) → owner_of st (awaited (mode_after turn)) ≡ link_of st (task_at st t.0)
 turned_link Wakes st t clear = no_owner st ∙ sym (suspended_link st (task_at st t.0).mode (clear_grounds st (Wake t) clear).1)
 turned_link Rests st t clear = no_owner st ∙ sym (executing_link st t clear)
 
-turned-ends
+turned_ends
     : (turn : Turn) (st : State) (t : TaskNo) (ss : List Server)
     → Clear st (turn_of turn t)
     → ends_of (with_task t.0 (with_mode (mode_after turn) (task_at st t.0)) (with_servers ss st)) ≡ ends_of st
-turned-ends turn st t ss clear = ends_same _ st (same_served _ st (moded-next st ss t.0 (mode_after turn) (turned_link turn st t clear)))
+turned_ends turn st t ss clear = ends_same _ st (same_served _ st (moded_next st ss t.0 (mode_after turn) (turned_link turn st t clear)))
 
 abbrev turned_to : Turn → State → TaskNo → Change
 turned_to turn st t =
@@ -124,7 +124,7 @@ unfolding change_of woken slept rested each_server servers_by turns turned_serve
 turned_is Wakes st t = refl
 turned_is Rests st t = refl
 
-pub turned-does
+pub turned_does
     : (turn : Turn) (st : State) (t : TaskNo) (ends : List TaskNo) (x : Turned) (m : Mode) (k : Task)
     → Clear st (turn_of turn t)
     → ends ≡ ends_of st
@@ -132,11 +132,11 @@ pub turned-does
     → m ≡ mode_after turn
     → k ≡ with_mode m (task_at st t.0)
     → record { state = with_task t.0 k (with_servers x.server st); answer = Ok x.count; ends = ends; acting = none } ≡ change_of st (turn_of turn t)
-turned-does turn st t ends x m k clear e ex em ek =
+turned_does turn st t ends x m k clear e ex em ek =
     (λ i. record {
       state = with_task t.0 ((ek ∙ ap (λ y. with_mode y (task_at st t.0)) em) i) (with_servers (ex i).server st);
       answer = Ok (ex i).count;
-      ends = (e ∙ sym (turned-ends turn st t (turned_servers turn st t.0).server clear)) i;
+      ends = (e ∙ sym (turned_ends turn st t (turned_servers turn st t.0).server clear)) i;
       acting = none;
     })
     ∙ turned_is turn st t
@@ -149,7 +149,7 @@ servers_next ss st t = refl
 servers_ends : (ss : List Server) (st : State) → ends_of (with_servers ss st) ≡ ends_of st
 servers_ends ss st = ends_same _ st (same_served _ st (servers_next ss st))
 
-pub phased-does
+pub phased_does
     : (p : Phase) (st : State) (s : ℕ) (ends : List TaskNo) (executor : ServerNo) (k : ℕ) (x : Server)
     → s < places
     → ends ≡ ends_of st
@@ -158,7 +158,7 @@ pub phased-does
     → x ≡ with_phase p (server_at st s)
     → record { state = with_server s x st; answer = Ok k; ends = ends; acting = none } ≡ phased_change p st s
 unfolding phased_change phased executor_of
-phased-does p st s ends executor k x l e ee ek ex =
+phased_does p st s ends executor k x l e ee ek ex =
     let place = ap (λ y. y.0) ee ∙ ap (λ t. executor_number (task_at st t).runs) (end_served st ends s e l) in
     λ i. record {
       state = with_server s (ex i) st;
@@ -167,7 +167,7 @@ phased-does p st s ends executor k x l e ee ek ex =
       acting = none;
     }
 
-pub recharged-does
+pub recharged_does
     : (st : State) (s : ServerNo) (ends : List TaskNo) (p : Phase) (x : Server) (a : Bool) (k : ℕ)
     → s.0 < places
     → ends ≡ ends_of st
@@ -177,7 +177,7 @@ pub recharged-does
     → k ≡ bit a
     → record { state = with_server s.0 x st; answer = Ok k; ends = ends; acting = none } ≡ change_of st (Recharge s)
 unfolding change_of recharged recharged_phase
-recharged-does st s ends p x a k l e ep ex ea ek =
+recharged_does st s ends p x a k l e ep ex ea ek =
     let phase : p ≡ recharged_phase st s.0 =
     ep ∙ ap (λ t. if suspended (task_at st t).mode then Idle else Active) (end_served st ends s.0 e l) in
     let entry = ex ∙ ap (λ q. refilled q st.clock (server_at st s.0)) phase in
@@ -216,26 +216,26 @@ elapsed_next : (st : State) (n t : ℕ) → next (elapsed st n) t ≡ next st t
 unfolding next
 elapsed_next st n t = rw (elapsed_here st n t, elapsed_mode st n t, elapsed_owner st n (awaited (task_at st t).mode))
 
-elapsed-parts
+elapsed_parts
     : (st : State) (n : ℕ) (x : Turned) (ts : List Task)
     → x ≡ spent_servers st n
     → ts ≡ ticked_tasks st n
     → with_clock (st.clock + n) (with_tasks ts (with_servers x.server st)) ≡ elapsed st n
 unfolding elapsed each_server servers_by ticked_tasks
-elapsed-parts st n x ts ex et = ap₂ (λ y us. with_clock (st.clock + n) (with_tasks us (with_servers y.server st))) ex et
+elapsed_parts st n x ts ex et = ap₂ (λ y us. with_clock (st.clock + n) (with_tasks us (with_servers y.server st))) ex et
 
-pub elapsed-does
+pub elapsed_does
     : (st : State) (n : ℕ) (ends : List TaskNo) (x : Turned) (ts : List Task)
     → ends ≡ ends_of st
     → x ≡ spent_servers st n
     → ts ≡ ticked_tasks st n
     → record { state = with_clock (st.clock + n) (with_tasks ts (with_servers x.server st)); answer = Ok x.count; ends = ends; acting = none } ≡ change_of st (Elapse n)
 unfolding change_of servers_by
-elapsed-does st n ends x ts e ex et =
+elapsed_does st n ends x ts e ex et =
     λ i. record { state = made i; answer = Ok (counts i); ends = (e ∙ sym (ends_same _ st (same_served _ st (elapsed_next st n)))) i; acting = none }
   where
     made : with_clock (st.clock + n) (with_tasks ts (with_servers x.server st)) ≡ elapsed st n
-    made = elapsed-parts st n x ts ex et
+    made = elapsed_parts st n x ts ex et
 
     counts : x.count ≡ (spent_servers st n).count
     counts = ap (λ y. y.count) ex
@@ -245,13 +245,13 @@ pub shift_done : (queue after : List TaskNo) (last : ℕ) → after ≡ set_to l
 unfolding shifted
 shift_done queue after last e = ap (λ q. set q last (record { 0 = 0 })) e
 
-joined-parts
+joined_parts
     : (st : State) (t r : ℕ) (task : Task) (resource : Resource)
     → task ≡ with_mode (Waiting r) (task_at st t)
     → resource ≡ enqueued t (resource_at st r)
     → with_task t task (with_resource r resource st) ≡ joined st t r
 unfolding joined
-joined-parts st t r task resource p q = ap₂ (λ k x. with_task t k (with_resource r x st)) p q
+joined_parts st t r task resource p q = ap₂ (λ k x. with_task t k (with_resource r x st)) p q
 
 -- servers behind a suspended chain end
 module _ (st : State) (t end : ℕ) (q : end ≡ served st t) where
@@ -268,14 +268,14 @@ unfolding rested_end rested each_server
 rested_ends st t = split (suspended (task_at st (served st t)).mode) (λ y. rw y (servers_ends _ st)) (λ n. rw n)
 
 -- the code's chain ends are those of the state that it has made
-change-is
+change_is
     : (u made : State) (a b : Answer) (ends : List TaskNo) (x : ServerNo) (s : ℕ)
     → u ≡ made
     → a ≡ b
     → ends ≡ ends_of made
     → x ≡ record { 0 = s }
     → ◌≡◌ {A = Change} (record { state = u; answer = a; ends = ends; acting = x }) (change_to made b s)
-change-is u made a b ends x s m q e y = λ i. record { state = m i; answer = q i; ends = e i; acting = y i }
+change_is u made a b ends x s m q e y = λ i. record { state = m i; answer = q i; ends = e i; acting = y i }
 
 module _
     (st : State) (t : TaskNo) (r : ℕ) (x : ServerNo) (acts : x ≡ record { 0 = executor_number (task_at st t.0).runs })
@@ -283,29 +283,29 @@ module _
   abbrev made : State
   made = with_task t.0 task (with_resource r resource st)
 
-  pub granted-does
+  pub granted_does
       : owned (resource_at st r).owner ≡ false
       → task ≡ pushed r (task_at st t.0)
       → resource ≡ with_owner (By t) (resource_at st r)
       → ends ≡ ends_of made
       → record { state = made; answer = Granted r; ends = ends; acting = x } ≡ change_of st (Lock t r)
   unfolding change_of locked granted executor_of
-  granted-does free p q e =
+  granted_does free p q e =
       let m = ap₂ (λ k y. with_task t.0 k (with_resource r y st)) p q in
-      change-is made (granted st t.0 r) _ _ ends x _ m refl (e ∙ ap ends_of m) acts ∙ rw free
+      change_is made (granted st t.0 r) _ _ ends x _ m refl (e ∙ ap ends_of m) acts ∙ rw free
 
-  pub freed-does
+  pub freed_does
       : (resource_at st r).waiting ≡ 0
       → task ≡ popped (task_at st t.0)
       → resource ≡ with_owner Nobody (resource_at st r)
       → ends ≡ ends_of made
       → record { state = made; answer = Freed r; ends = ends; acting = x } ≡ change_of st (Unlock t r)
   unfolding change_of unlocked freed executor_of
-  freed-does none p q e =
+  freed_does none p q e =
       let m = ap₂ (λ k y. with_task t.0 k (with_resource r y st)) p q in
-      change-is made (freed st t.0 r) _ _ ends x _ m refl (e ∙ ap ends_of m) acts ∙ rw (eq-eqb (resource_at st r).waiting 0 none)
+      change_is made (freed st t.0 r) _ _ ends x _ m refl (e ∙ ap ends_of m) acts ∙ rw (eq-eqb (resource_at st r).waiting 0 none)
 
-  pub queued-does
+  pub queued_does
       : (after : State) (end : TaskNo)
       → t.0 < places
       → owned (resource_at st r).owner ≡ true
@@ -316,17 +316,17 @@ module _
       → after ≡ rested_end made t.0
       → record { state = after; answer = Waits end; ends = ends; acting = x } ≡ change_of st (Lock t r)
   unfolding change_of locked executor_of
-  queued-does after end l taken p q e en a =
-      let j : made ≡ joined st t.0 r = joined-parts st t.0 r task resource p q in
+  queued_does after end l taken p q e en a =
+      let j : made ≡ joined st t.0 r = joined_parts st t.0 r task resource p q in
       let m = a ∙ ap (λ u. rested_end u t.0) j in
       let f = e ∙ ap ends_of j ∙ sym (rested_ends (joined st t.0 r) t.0) in
-      change-is after (rested_end (joined st t.0 r) t.0) _ _ ends x _ m
+      change_is after (rested_end (joined st t.0 r) t.0) _ _ ends x _ m
       (ap Waits (en ∙ (λ i. record { 0 = end_served _ ends t.0 f l i })))
       f
       acts
       ∙ rw taken
 
-pub passed-does
+pub passed_does
     : (st : State) (t : TaskNo) (r : ℕ) (heir : TaskNo) (task ready waiter : Task) (shorter resource : Resource) (ends : List TaskNo) (x : ServerNo)
     → x ≡ record { 0 = executor_number (task_at st t.0).runs }
     → 0 < (resource_at st r).waiting
@@ -339,7 +339,7 @@ pub passed-does
     → ends ≡ ends_of (with_task heir.0 waiter (with_task t.0 task (with_resource r resource st)))
     → record { state = with_task heir.0 waiter (with_task t.0 task (with_resource r resource st)); answer = Passed heir; ends = ends; acting = x } ≡ change_of st (Unlock t r)
 unfolding change_of unlocked passed executor_of
-passed-does st t r heir task ready waiter shorter resource ends x acts some f p q w y z e =
+passed_does st t r heir task ready waiter shorter resource ends x acts some f p q w y z e =
     let m : with_task heir.0 waiter (with_task t.0 task (with_resource r resource st)) ≡ passed st t.0 r (first_waiter (resource_at st r)) = rw (p, w, q, z, y, f) in
-    change-is _ _ _ _ ends x _ m (ap Passed f) (e ∙ ap ends_of m) acts
+    change_is _ _ _ _ ends x _ m (ap Passed f) (e ∙ ap ends_of m) acts
     ∙ rw (ne_eqb (resource_at st r).waiting 0 (λ z. omega arith))

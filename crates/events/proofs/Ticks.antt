@@ -32,7 +32,7 @@ ticks_added x n m b true e q = ap (λ k. x + k) (q ∙ rw e)
 ticks_added x n m b false e q = ap (λ k. x + k) (q ∙ rw e) ∙ add-zero x
 
 -- one server, field by field
-pub spent-does
+pub spent_does
     : (x : Server) (n : ℕ) (executes home runs out a b c : Bool) (phase : Phase) (budget own lent spin : ℕ)
     → runs ≡ running x.phase
     → out ≡ (running x.phase && eqb x.budget n)
@@ -54,7 +54,7 @@ pub spent-does
       lent = x.lent + lent;
       spin = x.spin + spin;
     } ≡ spent_by n executes home x
-spent-does x n executes home runs out a b c phase budget own lent spin r o p q ea eo eb el ec es =
+spent_does x n executes home runs out a b c phase budget own lent spin r o p q ea eo eb el ec es =
     λ i. record {
       phase = (p ∙ ap (λ k. if k then Recharging else x.phase) o) i;
       budget = (q ∙ ap (λ k. if k then x.budget - n else x.budget) r) i;
@@ -75,7 +75,7 @@ pub out_past : (st : State) (n s : ℕ) → here st s ≡ false → false ≡ ru
 unfolding runs_out running_at
 out_past st n s e = rw e
 
-pub spent-here
+pub spent_here
     : (st : State) (n s end : ℕ) (b : Bool) (x : Server)
     → here st s ≡ true
     → end ≡ served st s
@@ -83,7 +83,7 @@ pub spent-here
     → x ≡ spent_by n b (eqb end s) (server_at st s)
     → x ≡ spent_server st n s
 unfolding spent_server own_ticks lent_ticks spin_ticks runs_out running_at
-spent-here st n s end b x h e q p = rw (h, ← e, ← q) p
+spent_here st n s end b x h e q p = rw (h, ← e, ← q) p
 
 -- a task in use
 pub ticked_here : (st : State) (n t : ℕ) (x : Task) → here st t ≡ true → x ≡ ticked_by n (task_at st t) → x ≡ ticked_task st n t
@@ -105,13 +105,13 @@ all_skip p i a e h = and_true a ∙ all_turn p i a true e h
 pub all_ends : (p : ℕ → Bool) (i n : ℕ) (a : Bool) → i ≤ n → n ≤ i → a ≡ all_to i p → a ≡ all_to n p
 all_ends p i n a = turns_done (λ j. all_to j p) i n a
 
-pub affords-here
+pub affords_here
     : (st : State) (n s : ℕ) (b : Bool)
     → here st s ≡ true
     → b ≡ (running (server_at st s).phase implies leb n (server_at st s).budget)
     → b ≡ if_here st (affords st n) s
 unfolding if_here affords running_at
-affords-here st n s b h e = rw h e
+affords_here st n s b h e = rw h e
 
 pub affords_past : (st : State) (n s : ℕ) → here st s ≡ false → true ≡ if_here st (affords st n) s
 unfolding if_here

@@ -75,7 +75,7 @@ executes_here st s end executor runs h e r p =
     ap₂ (λ a k. a && eqb k s) (running_here st s runs h r) (ap (λ x. x.0) p ∙ ap (λ t. executor_number (task_at st t).runs) e)
 
 -- a server past the count does not turn; one in use turns by its phase and the task that it serves
-pub turns-here
+pub turns_here
     : (turn : Turn) (st : State) (t s end : ℕ) (a b : Bool)
     → here st s ≡ true
     → a ≡ concerns turn (server_at st s).phase
@@ -83,19 +83,19 @@ pub turns-here
     → b ≡ (a && eqb end t)
     → b ≡ turns turn st t s
 unfolding turns wakes rests
-turns-here Wakes st t s end a b h p e q = rw (h, ← p, ← e) q
-turns-here Rests st t s end a b h p e q = rw (h, ← p, ← e) q
+turns_here Wakes st t s end a b h p e q = rw (h, ← p, ← e) q
+turns_here Rests st t s end a b h p e q = rw (h, ← p, ← e) q
 
 pub turns_past : (turn : Turn) (st : State) (t s : ℕ) → here st s ≡ false → false ≡ turns turn st t s
 unfolding turns wakes rests
 turns_past Wakes st t s n = rw n
 turns_past Rests st t s n = rw n
 
-pub turned-here
+pub turned_here
     : (turn : Turn) (st : State) (t s : ℕ) (b : Bool) (x : Server)
     → b ≡ turns turn st t s
     → x ≡ (if b then turned turn st.clock (server_at st s) else server_at st s)
     → x ≡ turned_server turn st t s
 unfolding turns turned_server woken_server rested_server
-turned-here Wakes st t s b x e h = rw (← e) h
-turned-here Rests st t s b x e h = rw (← e) h
+turned_here Wakes st t s b x e h = rw (← e) h
+turned_here Rests st t s b x e h = rw (← e) h

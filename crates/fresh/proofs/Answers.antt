@@ -31,7 +31,7 @@ unfoldable pub refusal_to : Table → ℕ → Option ℕ
 refusal_to tb i = fold_to i (task_refusal tb) none
 
 -- a task in the table, and one past its tasks
-pub answer-more
+pub answer_more
     : (tb : Table) (i : ℕ) (a b r : FreshAnswer)
     → i < tb.tasks
     → a ≡ answer_of (refusal_to tb i)
@@ -39,7 +39,7 @@ pub answer-more
     → r ≡ first_answer a b
     → r ≡ answer_of (refusal_to tb (i + 1))
 unfolding fold_to task_refusal refusal_to
-answer-more tb i a b r l p q e = rw (add-one, lt-ltb i tb.tasks l) (e ∙ ap₂ first_answer p q ∙ first_or (refusal_to tb i) (entry_refusal tb.resources (entry_at tb i)))
+answer_more tb i a b r l p q e = rw (add-one, lt-ltb i tb.tasks l) (e ∙ ap₂ first_answer p q ∙ first_or (refusal_to tb i) (entry_refusal tb.resources (entry_at tb i)))
 
 pub answer_skip : (tb : Table) (i : ℕ) (a : FreshAnswer) → tb.tasks ≤ i → a ≡ answer_of (refusal_to tb i) → a ≡ answer_of (refusal_to tb (i + 1))
 unfolding fold_to task_refusal refusal_to
@@ -61,14 +61,14 @@ pub answer_none : (tb : Table) → Made ≡ answer_of (refusal_to tb 0)
 unfolding refusal_to fold_to
 answer_none tb = refl
 
-pub answer-done
+pub answer_done
     : (tb : Table) (i : ℕ) (a : FreshAnswer)
     → counts_fit tb.processors tb.tasks tb.resources ≡ true
     → i ≤ 16
     → 16 ≤ i
     → a ≡ answer_of (refusal_to tb i)
     → a ≡ answer_of (fresh_refusal tb)
-answer-done tb i a e l g p = turns_done (λ n. answer_of (refusal_to tb n)) i 16 a l g p ∙ ap answer_of (tasks_told tb e)
+answer_done tb i a e l g p = turns_done (λ n. answer_of (refusal_to tb n)) i 16 a l g p ∙ ap answer_of (tasks_told tb e)
 
 -- what fresh gives back, and says, where its answer is known
 made_none : (x : Option ℕ) → Made ≡ answer_of x → x ≡ none

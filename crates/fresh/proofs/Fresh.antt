@@ -22,7 +22,7 @@ use Rattle.model.specs.Shape.{Shaped}
 use Rattle.model.specs.Fresh.{entry_at, counts_refusal, entry_refusal, fresh_refusal, blank_server, blank_task, blank_resource, fresh_server, fresh_task, fresh_server_at, fresh_task_at, fresh_state, unusable}
 use Rattle.model.proofs.Chain.{here_below, here_tasks, present_below, owner_past, present_past, end_itself}
 use Rattle.model.proofs.Sound.{Counts, counts_fact, Quota, quota_fact, Sound, sound_facts}
-use Rattle.fresh.proofs.Refusals.{counts_fit_lem, tests-none, entry-none}
+use Rattle.fresh.proofs.Refusals.{counts_fit_lem, tests_none, entry_none}
 
 module _ (tb : Table) (accepted : fresh_refusal tb ≡ none) where
   abbrev st : State
@@ -31,14 +31,14 @@ module _ (tb : Table) (accepted : fresh_refusal tb ≡ none) where
   -- what the table says
   told : (counts_refusal tb ≡ none) × ((t : ℕ) → t < places → t < tb.tasks → entry_refusal tb.resources (entry_at tb t) ≡ none)
   unfolding fresh_refusal
-  told = tests-none tb places (counts_refusal tb) accepted
+  told = tests_none tb places (counts_refusal tb) accepted
 
   counts : Counts tb.processors tb.tasks tb.resources
   counts = (counts_fact tb.processors tb.tasks tb.resources).holds (counts_fit_lem tb told.0)
 
   entry_told : (i : ℕ) → here st i ≡ true → (quota_fits (entry_at tb i).quota (entry_at tb i).period ≡ true) × (declared_fits tb.resources (entry_at tb i).declared ≡ true)
   unfolding fresh_state
-  entry_told i h = entry-none tb.resources (entry_at tb i) (told.1 i (here_below st i h) (here_tasks st i h))
+  entry_told i h = entry_none tb.resources (entry_at tb i) (told.1 i (here_below st i h) (here_tasks st i h))
 
   quota_told : (i : ℕ) → here st i ≡ true → Quota (entry_at tb i).quota (entry_at tb i).period
   quota_told i h = (quota_fact (entry_at tb i).quota (entry_at tb i).period).holds (entry_told i h).0

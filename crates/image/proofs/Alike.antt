@@ -25,7 +25,7 @@ use Rattle.image.specs.Encoded.{header_bytes, servers_bytes, tasks_bytes, resour
 use Rattle.image.specs.Decoded.{tasks_used, resources_used, task_entries_fit, resource_entry_fits, is_image, entries_in, server_in, task_in, resource_in, state_in, decoded}
 use Rattle.image.specs.InUse.{in_use_at, AlikeInUse, SamePast}
 use Rattle.image.proofs.Stored.{stored_outside, stored_both, stands_agree}
-use Rattle.image.proofs.Local.{SameBytes, two_same, four_same, entries-same, server_fits_same, task_fits_same, resource_fits_same, server_same, task_same, resource_same}
+use Rattle.image.proofs.Local.{SameBytes, two_same, four_same, entries_same, server_fits_same, task_fits_same, resource_fits_same, server_same, task_same, resource_same}
 use Rattle.image.proofs.Image.{header_long, servers_long, tasks_long, resources_long, encoded_long, encoded_laid, laid_tasks, laid_resources, decoded_laid, decoded_long}
 
 -- the test as a fact
@@ -87,13 +87,13 @@ module _ (a b : List ℕ) (alike : AlikeInUse a b) where
   unfolding state_in
   state_same =
       let servers =
-      entries-same server_in server_size blank_server (tasks_used a) a b servers_offset
+      entries_same server_in server_size blank_server (tasks_used a) a b servers_offset
       (λ i l. server_same a b _ _ servers_same (servers_offset + server_size * i) (omega arith) (omega arith)) in
       let tasks =
-      entries-same task_in task_size blank_task (tasks_used a) a b tasks_offset
+      entries_same task_in task_size blank_task (tasks_used a) a b tasks_offset
       (λ i l. task_same a b _ _ tasks_same (tasks_offset + task_size * i) (omega arith) (omega arith)) in
       let resources =
-      entries-same resource_in resource_size blank_resource (resources_used a) a b resources_offset
+      entries_same resource_in resource_size blank_resource (resources_used a) a b resources_offset
       (λ r l. resource_same a b _ _ resources_same (resources_offset + resource_size * r) (omega arith) (omega arith)) in
       λ j. record {
         processors = two_same a b 0 header_size header_same 0 (omega arith) (omega arith) j;
@@ -110,9 +110,9 @@ module _ (a b : List ℕ) (alike : AlikeInUse a b) where
   alike_decoded = ap₂ (λ y st. if y then some st else none) image_same state_same
 
 -- and back: of one state there is one image, but for the bytes past the counts
-pub decoded-alike
+pub decoded_alike
     : (a b : List ℕ) (st : State) → Bytes a → Bytes b → decoded a ≡ some st → decoded b ≡ some st → AlikeInUse a b
-decoded-alike a b st all-a all-b e f =
+decoded_alike a b st all-a all-b e f =
     let x = decoded_laid a st e all-a in
     let y = decoded_laid b st f all-b in
     let n = laid_tasks st a x in
@@ -162,19 +162,19 @@ module _ (st : State) (bytes : List ℕ) (tasks : st.tasks ≡ two_bytes bytes 2
       let laid = encoded_laid st bytes long in
       rw (laid_tasks st (encoded st bytes) laid ∙ tasks, laid_resources st (encoded st bytes) laid ∙ resources)
 
-encoded-both
+encoded_both
     : (st : State) (a b : List ℕ) (i : ℕ) → length a ≡ length b → byte_at a i ≡ byte_at b i → byte_at (encoded st a) i ≡ byte_at (encoded st b) i
 unfolding encoded
-encoded-both st a b i long e =
+encoded_both st a b i long e =
     stored_both (resources_bytes st) _ _ resources_offset i (simp stored_length long)
     (stored_both (tasks_bytes st) _ _ tasks_offset i (simp stored_length long)
     (stored_both (servers_bytes st) _ _ servers_offset i (simp stored_length long) (stored_both (header_bytes st) a b 0 i long e)))
 
 -- and images that are alike stay so
-pub encoded-alike
+pub encoded_alike
     : (st : State) (a b : List ℕ) → st.tasks ≡ two_bytes a 2 → st.resources ≡ two_bytes a 4
     → length a ≡ image_size → AlikeInUse a b → AlikeInUse (encoded st a) (encoded st b)
-encoded-alike st a b tasks resources long alike = record {
+encoded_alike st a b tasks resources long alike = record {
   long = encoded_long st a ∙ alike.long ∙ sym (encoded_long st b);
-  same = λ i y. encoded-both st a b i alike.long (alike.same i (sym (counts_kept st a tasks resources long i) ∙ y));
+  same = λ i y. encoded_both st a b i alike.long (alike.same i (sym (counts_kept st a tasks resources long i) ∙ y));
 }

@@ -28,17 +28,17 @@ use Rattle.image.specs.Decoded.{server_fits, tasks_used, resources_used, task_en
 use Rattle.image.specs.Fits.{FitsServer, FitsTask, FitsResource, Fits}
 use Rattle.image.specs.InUse.{blank_past}
 use Rattle.image.proofs.Stored.{stands_before, stored_stands, stored_same}
-use Rattle.image.proofs.Parts.{entries_long, entries_back, entries_good, entries-forth, server_codec, task_codec, resource_codec}
+use Rattle.image.proofs.Parts.{entries_long, entries_back, entries_good, entries_forth, server_codec, task_codec, resource_codec}
 
 -- the counts and the clock
-header-codec
+header_codec
     : Codec header_size
     (λ (p : ℕ × (ℕ × (ℕ × ℕ))). two p.0 ++ two p.1.0 ++ two p.1.1.0 ++ four p.1.1.1)
     (λ bytes at. (two_bytes bytes at, (two_bytes bytes (at + 2), (two_bytes bytes (at + 2 + 2), four_bytes bytes (at + 2 + 2 + 2)))))
     (λ p. Fits16 p.0 × (Fits16 p.1.0 × (Fits16 p.1.1.0 × Fits32 p.1.1.1)))
     (λ bytes at. Any bytes at × (Any bytes at × (Any bytes at × Any bytes at)))
 unfolding two four
-header-codec = two_codec then two_codec then two_codec then four_codec
+header_codec = two_codec then two_codec then two_codec then four_codec
 
 -- the parts of a state stand in the bytes, each at its offset
 pub record Laid (st : State) (bytes : List ℕ) : Type 0 where
@@ -140,7 +140,7 @@ module _ (st : State) (bytes : List ℕ) where
       laid_state : state_in bytes ≡ blank_past st
       unfolding state_in blank_past header_bytes two four
       laid_state =
-          let counts = header-codec.back (st.processors, (st.tasks, (st.resources, st.clock))) bytes 0 (fit.processors, (fit.tasks, (fit.resources, fit.clock))) laid.header in
+          let counts = header_codec.back (st.processors, (st.tasks, (st.resources, st.clock))) bytes 0 (fit.processors, (fit.tasks, (fit.resources, fit.clock))) laid.header in
           let servers = entries_back server_codec no_server blank_server (used st.tasks) st.server bytes servers_offset servers_fit laid.servers in
           let tasks = entries_back task_codec no_task blank_task (used st.tasks) st.task bytes tasks_offset tasks_fit laid.tasks in
           let resources = entries_back resource_codec no_resource blank_resource (used st.resources) st.resource bytes resources_offset resources_fit laid.resources in
@@ -171,13 +171,13 @@ read_laid bytes all y =
     let entries = and_right (eqb (length bytes) image_size) _ y in
     let pair : (i : ℕ) → i < tasks_used bytes → task_entries_fit bytes i ≡ true = λ i l. all_at _ (tasks_used bytes) i l (and_left _ _ entries) in
     record {
-      header = header-codec.forth bytes 0 all (tt, (tt, (tt, tt)));
-      servers = entries-forth server_codec no_server blank_server (tasks_used bytes) bytes servers_offset (omega arith) all (λ i l. and_left _ _ (pair i l));
+      header = header_codec.forth bytes 0 all (tt, (tt, (tt, tt)));
+      servers = entries_forth server_codec no_server blank_server (tasks_used bytes) bytes servers_offset (omega arith) all (λ i l. and_left _ _ (pair i l));
       tasks =
-          entries-forth task_codec no_task blank_task (tasks_used bytes) bytes tasks_offset (omega arith) all
+          entries_forth task_codec no_task blank_task (tasks_used bytes) bytes tasks_offset (omega arith) all
           (λ i l. and_right (server_fits bytes (servers_offset + server_size * i)) _ (pair i l));
       resources =
-          entries-forth resource_codec no_resource blank_resource (resources_used bytes) bytes resources_offset (omega arith) all
+          entries_forth resource_codec no_resource blank_resource (resources_used bytes) bytes resources_offset (omega arith) all
           (λ r l. all_at _ (resources_used bytes) r l (and_right (all_to (tasks_used bytes) (task_entries_fit bytes)) _ entries));
     }
 
@@ -201,9 +201,9 @@ module _ (bytes : List ℕ) (st : State) (e : decoded bytes ≡ some st) where
   decoded_counts = (ap (λ x. x.tasks) (sym decoded_state.1), ap (λ x. x.resources) (sym decoded_state.1))
 
 -- what was written is read back, with blank entries past the counts
-pub decoded-encoded
+pub decoded_encoded
     : (st : State) (bytes : List ℕ) → Fits st → length bytes ≡ image_size → decoded (encoded st bytes) ≡ some (blank_past st)
-decoded-encoded st bytes fit long =
+decoded_encoded st bytes fit long =
     laid_decoded st (encoded st bytes) (encoded_laid st bytes long) (encoded_long st bytes ∙ long) fit
 
 -- and writing what was read changes nothing
@@ -211,11 +211,11 @@ pub encoded_decoded : (bytes : List ℕ) (st : State) → Bytes bytes → decode
 encoded_decoded bytes st all e = laid_same st bytes (decoded_laid bytes st e all)
 
 -- n turns of a loop that reads entries, for the code
-pub entries-read
+pub entries_read
     : {A : Type 0} (get : List ℕ → ℕ → A) (size : ℕ) (blank : A) (bytes : List ℕ) (at i n m : ℕ) (xs ys : List A)
     → i ≤ m → m ≤ i → m ≡ n → xs ≡ replicate places blank → ys ≡ set_to i (entry_in get size bytes at) xs → ys ≡ entries_in get size blank n bytes at
 unfolding entries_in
-entries-read get size blank bytes at i n m xs ys l g c e h =
+entries_read get size blank bytes at i n m xs ys l g c e h =
     set_done _ i n xs ys (omega arith) (omega arith) h ∙ ap (set_to n (entry_in get size bytes at)) e
 
 -- the ways out of reading and of writing, for the code
@@ -230,7 +230,7 @@ module _ (bytes : List ℕ) where
 
   -- the parts one after the other, n servers and tasks and r resources
   module _ (st : State) (n r : ℕ) (tasks : n ≡ used st.tasks) (resources : r ≡ used st.resources) {one two three exit : List ℕ} where
-    pub write-whole
+    pub write_whole
         : length bytes ≡ image_size
         → one ≡ stored bytes 0 (header_bytes st)
         → two ≡ stored one servers_offset (entries server_bytes no_server n st.server)
@@ -238,7 +238,7 @@ module _ (bytes : List ℕ) where
         → exit ≡ stored three resources_offset (entries resource_bytes no_resource r st.resource)
         → exit ≡ written st bytes
     unfolding encoded
-    write-whole long e f g h = rw (eq-eqb (length bytes) image_size long) (cc)
+    write_whole long e f g h = rw (eq-eqb (length bytes) image_size long) (cc)
 
   pub write_none : (st : State) → (length bytes ≡ image_size → ⊥) → bytes ≡ written st bytes
   write_none st e = rw (ne_eqb (length bytes) image_size e)

@@ -16,11 +16,11 @@ abbrev pub SameBytes : List ℕ → List ℕ → ℕ → ℕ → Type 0
 SameBytes a b from to = (i : ℕ) → from ≤ i → i < to → byte_at a i ≡ byte_at b i
 
 -- entries one by one
-pub entries-same
+pub entries_same
     : {A : Type 0} (get : List ℕ → ℕ → A) (size : ℕ) (blank : A) (n : ℕ) (a b : List ℕ) (at : ℕ)
     → ((i : ℕ) → i < n → get a (at + size * i) ≡ get b (at + size * i)) → entries_in get size blank n a at ≡ entries_in get size blank n b at
 unfolding entries_in entry_in
-entries-same get size blank n a b at e = set_same (entry_in get size a at) (entry_in get size b at) n (replicate places blank) e
+entries_same get size blank n a b at e = set_same (entry_in get size a at) (entry_in get size b at) n (replicate places blank) e
 
 module _ (a b : List ℕ) (from to : ℕ) (same : SameBytes a b from to) where
   pub two_same : (at : ℕ) → from ≤ at → at + 2 ≤ to → two_bytes a at ≡ two_bytes b at
@@ -67,7 +67,7 @@ module _ (a b : List ℕ) (from to : ℕ) (same : SameBytes a b from to) where
     pub task_same : at + 46 ≤ to → task_in a at ≡ task_in b at
     unfolding task_in
     task_same m =
-        let held = entries-same two_bytes 2 0 places a b (at + 14) (λ i l. two_same (at + 14 + 2 * i) (omega arith) (omega arith)) in
+        let held = entries_same two_bytes 2 0 places a b (at + 14) (λ i l. two_same (at + 14 + 2 * i) (omega arith) (omega arith)) in
         λ j. record {
           mode = mode_of (tagged_same at low (omega arith) j);
           runs = runs_of (tagged_same (at + 3) (omega arith) (omega arith) j);
@@ -81,7 +81,7 @@ module _ (a b : List ℕ) (from to : ℕ) (same : SameBytes a b from to) where
     unfolding resource_in
     resource_same m =
         let queue =
-        entries-same task_no_in 2 no_task_no places a b (at + 5)
+        entries_same task_no_in 2 no_task_no places a b (at + 5)
         (λ i l. λ j. record { 0 = two_same (at + 5 + 2 * i) (omega arith) (omega arith) j }) in
         λ j. record {
           owner = owner_of (tagged_same at low (omega arith) j);

@@ -56,11 +56,11 @@ module _
       pub entries_good : (i : ℕ) → i < n → Good bytes (at + size * i)
       entries_good i l = a.good (get_or xs i none) bytes (at + size * i) (fit i l) (each_stands xs bytes at i l h)
 
-    pub entries-forth
+    pub entries_forth
         : (bytes : List ℕ) (at : ℕ) → n ≤ places → Bytes bytes → ((i : ℕ) → i < n → Good bytes (at + size * i))
         → Stands (entries put none n (entries_in get size blank n bytes at)) bytes at
     unfolding entries entry_bytes entries_in entry_in
-    entries-forth bytes at most all g =
+    entries_forth bytes at most all g =
         Stands-parts (entry_bytes put none (entries_in get size blank n bytes at)) size (λ j. a.long _) n bytes at
         (λ i l.
         subst (λ x. Stands (put x) bytes (at + size * i))
@@ -88,7 +88,7 @@ module _
           let k : i < places = omega (arith, length_set_to places (λ i. get_or xs i none) (replicate places blank), length-replicate places blank) in
           set_at_lem places i (λ i. get_or xs i none) (replicate places blank) none k (rw length-replicate k));
       good = λ xs bytes at fit h. entries_good a none blank places xs bytes at fit.each h;
-      forth = λ bytes at all g. entries-forth a none blank places bytes at (omega arith) all g;
+      forth = λ bytes at all g. entries_forth a none blank places bytes at (omega arith) all g;
     }
 
 task_no_codec : Codec 2 task_no_bytes task_no_in FitsTaskNo Any
@@ -108,14 +108,14 @@ module _ {E : Type 0} {last : ℕ} {put : E → Tagged} {of : Tagged → E} (g :
   unfolding tagged_bytes one two
   told e bytes at fit h = λ i. record { tag = h.0 i; number = two_codec.back (put e).number bytes (at + 1) fit h.1 i }
 
-  tagged-codec
+  tagged_codec
       : Codec 3
       (λ e. tagged_bytes (put e))
       (λ bytes at. of (tagged_in bytes at))
       (λ e. Fits16 (put e).number)
       (λ bytes at. tagged_fits last bytes at ≡ true)
   unfolding tagged_bytes one two tagged_fits
-  tagged-codec = record {
+  tagged_codec = record {
     long = λ e. refl;
     back = λ e bytes at fit h. ap of (told e bytes at fit h) ∙ g.home e;
     good = λ e bytes at fit h. ap (tag_fits last) (told e bytes at fit h) ∙ g.known e;
@@ -215,7 +215,7 @@ pub task_codec : Codec 46 task_bytes task_in FitsTask (λ bytes at. task_fits by
 unfolding task_bytes task_in task_fits
 task_codec =
     recoded
-    (tagged-codec mode_tagging then tagged-codec runs_tagging then two_codec then two_codec then four_codec then sixteen two_codec 0 0)
+    (tagged_codec mode_tagging then tagged_codec runs_tagging then two_codec then two_codec then four_codec then sixteen two_codec 0 0)
     (λ t. (t.mode, (t.runs, (t.declared, (t.depth, (t.executed, t.held))))))
     (λ p. record {
       mode = p.0;
@@ -234,7 +234,7 @@ pub resource_codec : Codec 37 resource_bytes resource_in FitsResource (λ bytes 
 unfolding resource_bytes resource_in resource_fits
 resource_codec =
     recoded
-    (tagged-codec owner_tagging then two_codec then sixteen task_no_codec no_task_no no_task_no)
+    (tagged_codec owner_tagging then two_codec then sixteen task_no_codec no_task_no no_task_no)
     (λ r. (r.owner, (r.waiting, r.queue)))
     (λ p. record { owner = p.0; waiting = p.1.0; queue = p.1.1 })
     (λ p. refl) (λ r. refl) (λ r. simp append_assoc) (λ bytes at. simp add_assoc)

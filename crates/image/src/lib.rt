@@ -1,5 +1,5 @@
 // A state in lent bytes: a fixed layout, little-endian (docs/STATE.md), for callers that keep the state on their side of the library. The header and the
-// entries in use are read and written, every other byte stays (rule 1.7). Writing and reading give each other back (laws `decoded-encoded` and
+// entries in use are read and written, every other byte stays (rule 1.7). Writing and reading give each other back (laws `decoded_encoded` and
 // `encoded_decoded`). No assumption on the bytes or the state.
 use model::State;
 

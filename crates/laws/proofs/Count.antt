@@ -67,9 +67,9 @@ pub zero_count : (n i : ℕ) (p : ℕ → Bool) → count_to n p ≡ 0 → i < n
 zero_count n i p e l = split (p i) (λ t. absurd (omega (arith, count_some n i p l t))) (λ f. f)
 
 -- counts of tests that differ at one place differ as that place does
-pub count-but-one
+pub count_but_one
     : (n i : ℕ) (p q : ℕ → Bool) → i < n → ((j : ℕ) → j < n → (j ≡ i → ⊥) → p j ≡ q j) → count_to n p + bit (q i) ≡ count_to n q + bit (p i)
-count-but-one n i p q l h = rw (count_sum n p, count_sum n q) (sum_but_one n i _ _ l (λ j m x. ap bit (h j m x)))
+count_but_one n i p q l h = rw (count_sum n p, count_sum n q) (sum_but_one n i _ _ l (λ j m x. ap bit (h j m x)))
 
 -- p everywhere but at i
 abbrev but : ℕ → (ℕ → Bool) → ℕ → Bool
@@ -84,7 +84,7 @@ count_one_same n i j p one l m a b =
     (λ e.
     let h : bit (but i p i) ≡ 0 = rw (eq-eqb i i refl) in
     let k : 1 ≤ count_to n (but i p) = count_some n j (but i p) m (rw e b) in
-    absurd (omega (arith, ap bit a, count-but-one n i p (but i p) l (λ x y q. rw (ne_eqb x i q)))))
+    absurd (omega (arith, ap bit a, count_but_one n i p (but i p) l (λ x y q. rw (ne_eqb x i q)))))
 
 -- what holds at no two places holds at most once
 pub count_once : (n : ℕ) (p : ℕ → Bool) → ((i j : ℕ) → i < j → j < n → p i ≡ true → p j ≡ true → ⊥) → count_to n p ≤ 1

@@ -29,8 +29,8 @@ module _ {ℓ} {A : Type ℓ} where
   fold_done f i n a y = turns_done (λ j. fold_to j f a) i n y
 
   -- what each turn keeps, all turns keep
-  pub fold-keeps {κ}
+  pub fold_keeps {κ}
       : (P : A → Type κ) (f : ℕ → A → A) (n : ℕ) → ((i : ℕ) → i < n → (x : A) → P x → P (f i x)) → (a : A) → P a → P (fold_to n f a)
   unfolding fold_to
-  fold-keeps P f zero k a p = p
-  fold-keeps P f (suc n) k a p = k n (omega arith) (fold_to n f a) (fold-keeps P f n (λ i l x q. k i (omega arith) x q) a p)
+  fold_keeps P f zero k a p = p
+  fold_keeps P f (suc n) k a p = k n (omega arith) (fold_to n f a) (fold_keeps P f n (λ i l x q. k i (omega arith) x q) a p)

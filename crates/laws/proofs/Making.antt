@@ -29,14 +29,14 @@ module _ {A : Type 0} where
   making_done l h = set_done _ _ _ _ _ h.inside l h.so_far
 
   -- a turn that leaves a place of an array that was blank at first
-  pub making-blank
+  pub making_blank
       : {n : ℕ} {f : ℕ → A} {xs ys : List A} {i : ℕ} (blank : A)
       → i < n
       → ys ≡ xs
       → f i ≡ blank
       → Making n f (replicate n blank) i xs
       → Making n f (replicate n blank) (i + 1) ys
-  making-blank {n} {f} {xs} {ys} {i} blank l e v h = making_skip l blank e (v ∙ sym (replicate_at n i blank)) h
+  making_blank {n} {f} {xs} {ys} {i} blank l e v h = making_skip l blank e (v ∙ sym (replicate_at n i blank)) h
 
   -- a place of what was made
   pub made_at : (n : ℕ) (f : ℕ → A) (blank d : A) (i : ℕ) → i < n → get_or (made_by n f blank) i d ≡ f i

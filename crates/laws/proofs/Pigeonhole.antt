@@ -49,14 +49,14 @@ abbrev joined : ℕ → ℕ → (ℕ → ℕ) → ℕ → ℕ
 joined m v f i = if ltb i m then f i else v
 
 -- and fewer where one is missing
-pub distinct-fewer
+pub distinct_fewer
     : (m n v : ℕ) (f : ℕ → ℕ)
     → ((i : ℕ) → i < m → f i < n)
     → ((i j : ℕ) → i < j → j < m → f i ≡ f j → ⊥)
     → v < n
     → ((i : ℕ) → i < m → f i ≡ v → ⊥)
     → m < n
-distinct-fewer m n v f inside apart l missing = distinct_most (suc m) n (joined m v f) below distinct
+distinct_fewer m n v f inside apart l missing = distinct_most (suc m) n (joined m v f) below distinct
   where
     below : (i : ℕ) → i < suc m → joined m v f i < n
     below i k = split (ltb i m) (λ e. rw e (inside i (ltb-true i m e))) (λ e. rw e l)
@@ -138,15 +138,15 @@ module _ (n : ℕ) (next : ℕ → ℕ) where
   ended_open (suc k) x e j h = ended_open k (next x) (rw (hop_linked x h.0) at e) j (leads_on j (next x) x h.1 h.0)
 
   -- nor does anything on its way
-  pub ended-open-way
+  pub ended_open_way
       : (k x : ℕ) → Ended n next (walk n next k x) → (i j : ℕ) → Leads n next (suc j) (walk n next i x) (walk n next i x) → ⊥
-  ended-open-way k x e i =
+  ended_open_way k x e i =
       ended_open k (walk n next i x) (rw (← (walk_add i k x), walk_more k (i + k) x e (omega arith)) e)
 
   -- where nothing on the way leads back to itself, the walk ends within n hops
-  pub open-ends
+  pub open_ends
       : (x : ℕ) → x < n → ((i j : ℕ) → Leads n next (suc j) (walk n next i x) (walk n next i x) → ⊥) → Ended n next (walk n next n x)
-  open-ends x l free =
+  open_ends x l free =
       ⊎_elim
       (λ e. e)
       (λ m. absurd (omega (arith, distinct_most (suc n) n (λ i. walk n next i x) (λ i k. walk_below i x l) (distinct m))))
@@ -164,8 +164,8 @@ module _ (n : ℕ) (next : ℕ → ℕ) where
 
   -- what ends at all ends within n hops
   pub ends_in_time : (k x : ℕ) → x < n → Ended n next (walk n next k x) → Ended n next (walk n next n x)
-  ends_in_time k x l e = open-ends x l (ended-open-way k x e)
+  ends_in_time k x l e = open_ends x l (ended_open_way k x e)
 
   -- where nothing leads back to itself, everything ends
   pub closed_or_ended : ((y : ℕ) → y < n → (j : ℕ) → Leads n next (suc j) y y → ⊥) → (x : ℕ) → x < n → Ended n next (walk n next n x)
-  closed_or_ended free x l = open-ends x l (λ i. free (walk n next i x) (walk_below i x l))
+  closed_or_ended free x l = open_ends x l (λ i. free (walk n next i x) (walk_below i x l))

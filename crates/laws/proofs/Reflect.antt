@@ -81,9 +81,9 @@ reflects_iff {a} {b} r s =
           (λ f. rw (f, reflects_false s (λ q. reflects_fails r f (h.1 q))));
     }
 
-pub reflects-all
+pub reflects_all
     : (n : ℕ) (p : ℕ → Bool) (P : ℕ → Type 0) → ((i : ℕ) → i < n → Reflects (p i) (P i)) → Reflects (all_to n p) ((i : ℕ) → i < n → P i)
-reflects-all n p P r =
+reflects_all n p P r =
     record {
       holds = λ e i l. (r i l).holds (all_at p n i l e);
       test = λ h. all_each p n (λ i l. (r i l).test (h i l));

@@ -83,7 +83,7 @@ module _ {ℓ} {A : Type ℓ} where
       (store_cases (set_to n f l) n (f n) d i)
 
   -- so a relation between new entries and old ones holds everywhere
-  pub setTo-keeps
+  pub set_to_keeps
       : (R : A → A → Type 0) (d : A) → ((a : A) → R a a) → (n : ℕ) (g : ℕ → A) (l : List A) (i : ℕ) → ((j : ℕ) → R (g j) (get_or l j d))
       → R (get_or (set_to n g l) i d) (get_or l i d)
-  setTo-keeps R d self n g l i new = ⊎_elim (λ c. rw c (new i)) (λ c. rw c (self (get_or l i d))) (each_cases n g l d i)
+  set_to_keeps R d self n g l i new = ⊎_elim (λ c. rw c (new i)) (λ c. rw c (self (get_or l i d))) (each_cases n g l d i)

@@ -1,7 +1,7 @@
 -- Items that stand in boxes: each item stands once in the box that it points to, and nowhere else, and only items in use stand anywhere. A stack of
 -- resources with their owners is this, and a queue of tasks with what they wait for is this too. A box is the first `size` of a fixed number of
--- places, one more than `top`; an item that points nowhere points to that number. Kept are: one item put into a box (`put-standing`), one taken out
--- (`taken-standing`), said by how often each item stands in that box, which is `count-put` where a last place is filled or given up and `count-shift`
+-- places, one more than `top`; an item that points nowhere points to that number. Kept are: one item put into a box (`put_standing`), one taken out
+-- (`taken_standing`), said by how often each item stands in that box, which is `count_put` where a last place is filled or given up and `count_shift`
 -- where the first is given up and the others move on. Where an item does not stand a box has room: the pigeonhole law. Assumes nothing.
 use mathlib.Core.Path.{◌≡◌, refl, sym, ap, subst, ◌∙◌}
 use mathlib.Core.Bool.{Bool, true, false, ◌&&◌}
@@ -12,8 +12,8 @@ use borrow.Author.Tests.{ltb-true, ltb-false, lt-ltb, le-ltb, eqb-true, eqb-fals
 use Rattle.laws.specs.Tests.{if◌then◌else◌, bit}
 use Rattle.laws.specs.Loops.{count_to}
 use Rattle.laws.proofs.Cases.{split, holds_fails, and_both}
-use Rattle.laws.proofs.Count.{bit_le, count_ext, count-but-one, count_zero, zero_count, count_one_same}
-use Rattle.laws.proofs.Pigeonhole.{distinct-fewer}
+use Rattle.laws.proofs.Count.{bit_le, count_ext, count_but_one, count_zero, zero_count, count_one_same}
+use Rattle.laws.proofs.Pigeonhole.{distinct_fewer}
 
 -- place j is one of the first n, and has v
 abbrev pub at : ℕ → (ℕ → ℕ) → ℕ → ℕ → Bool
@@ -58,20 +58,20 @@ module _ (top : ℕ) where
         split (eqb j n) (λ y. rw (eqb-true j n y) h) (λ x. let b : j < n = omega (arith, eqb-false j n x) in ap p (same j b) ∙ f.1 j k b),
   )
 
-  pub count-put
+  pub count_put
       : (n m : ℕ) (old new : ℕ → ℕ) (v : ℕ) → n < suc top → m ≡ n + 1 → ((j : ℕ) → j < n → new j ≡ old j)
       → times m new v ≡ times n old v + bit (eqb (new n) v)
-  count-put n m old new v l e same =
-      let k = count-but-one (suc top) n (at m new v) (at n old v) l
+  count_put n m old new v l e same =
+      let k = count_but_one (suc top) n (at m new v) (at n old v) l
       (λ j h x. at_both n m old new v j j (λ y. (omega arith, same j y)) (λ y. omega (arith, x))) in
       omega (arith, k, ap bit (at_in m new v n (omega arith)), ap bit (at_out n old v n (omega arith)))
 
   -- the first is given up
-  pub count-shift
+  pub count_shift
       : (n m : ℕ) (old new : ℕ → ℕ) (v : ℕ) → n < suc top → m ≡ n + 1 → ((j : ℕ) → j < n → new j ≡ old (suc j))
       → times m old v ≡ times n new v + bit (eqb (old 0) v)
   unfolding count_to
-  count-shift n m old new v l e same =
+  count_shift n m old new v l e same =
       let whole : times m old v ≡ bit (at m old v 0) + count_to top (λ j. at m old v (suc j)) = count_first top (at m old v) in
       let last : times n new v ≡ count_to top (at n new v) + bit (at n new v top) = refl in
       let rest : count_to top (λ j. at m old v (suc j)) ≡ count_to top (at n new v) =
@@ -87,12 +87,12 @@ pub record Standing
   pub allowed : (b a : ℕ) → box b ≡ true → item a ≡ true → to a ≡ b → may b a ≡ true
 
 -- what looks the same stands the same
-pub same-standing
+pub same_standing
     : {top : ℕ} {item box points item' box' points' : ℕ → Bool} {size to size' to' : ℕ → ℕ} {entry entry' : ℕ → ℕ → ℕ} {may may' : ℕ → ℕ → Bool}
     → ((a : ℕ) → item a ≡ item' a) → ((b : ℕ) → box b ≡ box' b) → ((b : ℕ) → size b ≡ size' b) → ((b j : ℕ) → entry b j ≡ entry' b j)
     → ((a : ℕ) → points a ≡ points' a) → ((a : ℕ) → to a ≡ to' a) → ((b a : ℕ) → may b a ≡ may' b a)
     → Standing top item box size entry points to may → Standing top item' box' size' entry' points' to' may'
-same-standing {top} p q s e o t m old =
+same_standing {top} p q s e o t m old =
     subst (λ T. T)
     (λ i. Standing top (λ a. p a i) (λ b. q b i) (λ b. s b i) (λ b j. e b j i) (λ a. o a i) (λ a. t a i) (λ b a. m b a i))
     old
@@ -126,7 +126,7 @@ module _
     pub standing_room : ((a : ℕ) → item a ≡ true → a < suc top) → (b a : ℕ) → box b ≡ true → item a ≡ true → (to a ≡ b → ⊥) → size b < suc top
     standing_room short b a h k n =
         let f = old.filled b h in
-        distinct-fewer (size b) (suc top) a (entry b)
+        distinct_fewer (size b) (suc top) a (entry b)
         (λ i l. short (entry b i) (f.1 i (omega (arith, f.0)) l))
         (λ i j l m e.
         let u = f.1 j (omega (arith, f.0)) m in
@@ -196,11 +196,11 @@ module _
             }
 
         -- i, which points nowhere, is put into c
-        pub put-standing
+        pub put_standing
             : box c ≡ true → ((a : ℕ) → to' a ≡ (if eqb a i then c else to a)) → to i ≡ suc top → may c i ≡ true
             → ((a : ℕ) → times top (size' c) (entry' c) a ≡ times top (size c) (entry c) a + bit (eqb i a))
             → Standing top item box size' entry' points' to' may'
-        put-standing known to_is none ok count =
+        put_standing known to_is none ok count =
             moved_standing c (λ a. bit (eqb i a)) (λ a. 0) to_is
             (λ a. omega (arith, count a))
             (λ a n. (ap bit (ne_eqb i a (λ e. n (sym e))), refl))
@@ -209,11 +209,11 @@ module _
             (λ p. known) (λ h. ok)
 
         -- i is taken out of c
-        pub taken-standing
+        pub taken_standing
             : box c ≡ true → ((a : ℕ) → to' a ≡ (if eqb a i then suc top else to a)) → to i ≡ c → points' i ≡ false
             → ((a : ℕ) → times top (size c) (entry c) a ≡ times top (size' c) (entry' c) a + bit (eqb i a))
             → Standing top item box size' entry' points' to' may'
-        taken-standing known to_is there off count =
+        taken_standing known to_is there off count =
             moved_standing (suc top) (λ a. 0) (λ a. bit (eqb i a)) to_is
             (λ a. omega (arith, count a))
             (λ a n. (refl, ap bit (ne_eqb i a (λ e. n (sym e)))))

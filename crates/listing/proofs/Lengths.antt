@@ -113,28 +113,28 @@ closing_most (complete tb) st at = omega (arith, end_most st)
 abbrev left_over : ℕ → ℕ → ℕ
 left_over n at = room_each * (n - at) + room_more
 
-record-most
+record_most
     : (rest : Progress → List ℕ) (p : Progress) (at next n : ℕ) (o : Option ℕ) (r : Record)
     → at + 6 ≤ next → next ≤ n → ((q : Progress) → length (rest q) ≤ left_over n next) → length (record_text rest p at o r) ≤ left_over n at
-record-most rest p at next n (some k) r a b h = omega (arith, stop_most at k)
-record-most rest p at next n none (Counts x y z) a b h = omega (arith, h (started (advanced p.stage (Counts x y z))))
-record-most rest p at next n none (Reservation x) a b h = omega (arith, h (started (advanced p.stage (Reservation x))))
-record-most rest p at next n none (Happening x) a b h = simp length-append (omega (arith, event_most (p.events + 1) (stepped p.state x).answer, h (continued p x)))
+record_most rest p at next n (some k) r a b h = omega (arith, stop_most at k)
+record_most rest p at next n none (Counts x y z) a b h = omega (arith, h (started (advanced p.stage (Counts x y z))))
+record_most rest p at next n none (Reservation x) a b h = omega (arith, h (started (advanced p.stage (Reservation x))))
+record_most rest p at next n none (Happening x) a b h = simp length-append (omega (arith, event_most (p.events + 1) (stepped p.state x).answer, h (continued p x)))
 
-read-most
+read_most
     : (left : ℕ) (file : List ℕ) (at : ℕ) (p : Progress) (r : Read) → read_at file at ≡ r
     → ((next : ℕ) (q : Progress) → length (items_text (items_from left file next) q) ≤ left_over (length file) next)
     → length (read_text (items_text (items_after (items_from left file) r)) p at r) ≤ left_over (length file) at
-read-most left file at p (Got r q) e h =
+read_most left file at p (Got r q) e h =
     let m = read_moves file at r q e in
-    record-most (items_text (items_from left file q.at)) p at q.at (length file) (order_refusal p.stage r) r m.0 m.1 (h q.at)
-read-most left file at p End e h = omega (arith, closing_most p.stage p.state at)
-read-most left file at p (Fault n) e h = omega (arith, stop_most at n)
+    record_most (items_text (items_from left file q.at)) p at q.at (length file) (order_refusal p.stage r) r m.0 m.1 (h q.at)
+read_most left file at p End e h = omega (arith, closing_most p.stage p.state at)
+read_most left file at p (Fault n) e h = omega (arith, stop_most at n)
 
 items_most : (left : ℕ) (file : List ℕ) (at : ℕ) (p : Progress) → length (items_text (items_from left file at) p) ≤ left_over (length file) at
 unfolding items_from items_text
 items_most zero file at p = omega arith
-items_most (suc left) file at p = read-most left file at p (read_at file at) refl (items_most left file)
+items_most (suc left) file at p = read_most left file at p (read_at file at) refl (items_most left file)
 
 pub listing_fits : (file : List ℕ) → length (listing file) ≤ room (length file)
 unfolding listing room items items_at

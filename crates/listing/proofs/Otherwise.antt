@@ -33,14 +33,14 @@ neither End h k = refl
 neither (Fault n) h k = ⊎_elim (λ e. absurd (omega arith)) (λ e. absurd (omega arith)) k
 
 -- no record while the table is read
-pub table-unread
+pub table_unread
     : (file : List ℕ) (at : ℕ) (p : Progress) (r : Read) (n : ℕ)
     → end_text p.stage p.state at ≡ stop_line at 32
     → read_at file at ≡ r → OneOf (1 ∷ 2 ∷ []) (tag_of reading.the_type r) → n ≡ unread_number r
     → text_from file p at ≡ stop_line at n
-table-unread file at p (Got r q) n t e h u = ⊎_elim (λ e. absurd (omega arith)) (λ e. absurd (omega arith)) h
-table-unread file at p End n t e h u = text_end file at p e ∙ t ∙ rw u
-table-unread file at p (Fault m) n t e h u = text_fault file at p m e ∙ rw u
+table_unread file at p (Got r q) n t e h u = ⊎_elim (λ e. absurd (omega arith)) (λ e. absurd (omega arith)) h
+table_unread file at p End n t e h u = text_end file at p e ∙ t ∙ rw u
+table_unread file at p (Fault m) n t e h u = text_fault file at p m e ∙ rw u
 
 -- the wrong record for where it stands
 pub not_counts : (r : Record) → OneOf (1 ∷ 2 ∷ []) (tag_of recorded.the_type r) → order_refusal opening r ≡ some 32

@@ -28,26 +28,26 @@ use Rattle.listing.specs.Replay.{room_each, room_more, room}
 use Rattle.listing.specs.Computed.{text_from, running}
 use Rattle.bytes.specs.Writing.{Wrote}
 use Rattle.bytes.proofs.Writing.{wrote_none, wrote_then, wrote_most}
-use Rattle.listing.proofs.Texts.{text-event}
+use Rattle.listing.proofs.Texts.{text_event}
 
 -- past the table the text does not depend on it
 abbrev past : Table → State → ℕ → Progress
 past tb st n = record { stage = complete tb; state = st; events = n }
 
-rest-same
+rest_same
     : (rest : Progress → List ℕ) (at : ℕ) (r : Read) (tb u : Table) (st : State) (n : ℕ)
     → ((s : State) (m : ℕ) → rest (past tb s m) ≡ rest (past u s m))
     → read_text rest (past tb st n) at r ≡ read_text rest (past u st n) at r
-rest-same rest at (Got (Counts a b c) q) tb u st n h = refl
-rest-same rest at (Got (Reservation e) q) tb u st n h = refl
-rest-same rest at (Got (Happening e) q) tb u st n h = ap (λ l. event_line (n + 1) (stepped st e).answer ++ l) (h (stepped st e).state (n + 1))
-rest-same rest at End tb u st n h = refl
-rest-same rest at (Fault k) tb u st n h = refl
+rest_same rest at (Got (Counts a b c) q) tb u st n h = refl
+rest_same rest at (Got (Reservation e) q) tb u st n h = refl
+rest_same rest at (Got (Happening e) q) tb u st n h = ap (λ l. event_line (n + 1) (stepped st e).answer ++ l) (h (stepped st e).state (n + 1))
+rest_same rest at End tb u st n h = refl
+rest_same rest at (Fault k) tb u st n h = refl
 
 table_gone : (is : List (ℕ × Read)) (tb u : Table) (st : State) (n : ℕ) → items_text is (past tb st n) ≡ items_text is (past u st n)
 unfolding items_text
 table_gone [] tb u st n = refl
-table_gone (i ∷ is) tb u st n = rest-same (items_text is) i.0 i.1 tb u st n (table_gone is tb u)
+table_gone (i ∷ is) tb u st n = rest_same (items_text is) i.0 i.1 tb u st n (table_gone is tb u)
 
 pub running_is : (file : List ℕ) (tb : Table) (st : State) (n at : ℕ) → text_from file (past tb st n) at ≡ text_from file (running st n) at
 unfolding text_from
@@ -81,11 +81,11 @@ module _ {file lent : List ℕ} {from : ℕ} {fresh : State} where
       }
 
   module _ {out : List ℕ} {at : ℕ} {st : State} {events written : ℕ} (h : SoFar file lent from fresh out at st events written) where
-    pub so-far-turn
+    pub so_far_turn
         : {to : List ℕ} {next : ℕ} (e : Event) (q : Place) (o : Outcome)
         → read_at file at ≡ Got (Happening e) q → o ≡ attempted st e → Wrote event_line_most out written (event_line (events + 1) o.answer) to next
         → SoFar file lent from fresh to q.at o.state (events + 1) next
-    so-far-turn e q o g a w =
+    so_far_turn e q o g a w =
         let m = read_moves file at (Happening e) q g in
         let s : o ≡ stepped st e = a ∙ attempted_stepped st e h.is_sound in
         let k = kept st e h.shaped h.is_sound in
@@ -99,7 +99,7 @@ module _ {file lent : List ℕ} {from : ℕ} {fresh : State} where
               append_assoc h.text line (text_from file (running o.state (events + 1)) q.at)
               ∙ ap (λ l. h.text ++ l)
               (ap (λ p. event_line (events + 1) p.answer ++ text_from file (running p.state (events + 1)) q.at) s
-              ∙ sym (text-event file at (running st events) q e g refl))
+              ∙ sym (text_event file at (running st events) q e g refl))
               ∙ h.rest;
           shaped = rw s k.0;
           is_sound = rw s k.1;
@@ -111,9 +111,9 @@ module _ {file lent : List ℕ} {from : ℕ} {fresh : State} where
     so_far_room n l r = omega (arith, h.inside, h.wrote.within, h.wrote.kept)
 
     -- the last text of all
-    pub so-far-end
+    pub so_far_end
         : {to : List ℕ} {end m : ℕ} (last : List ℕ) → m ≤ room_more → text_from file (running st events) at ≡ last → Wrote m out written last to end
         → Wrote (room (length file)) lent 0 (text_from file (running fresh 0) from) to end
     unfolding room
-    so-far-end last l e w =
+    so_far_end last l e w =
         rw (← h.rest, e) (wrote_most (omega (arith, h.inside)) (wrote_then h.wrote w))

@@ -35,28 +35,28 @@ use Rattle.trace.specs.Order.{Stage, entering, complete, counted_table}
 use Rattle.trace.proofs.Items.{read_moves}
 use Rattle.listing.specs.Listing.{beginning, stop_line, started}
 use Rattle.listing.specs.Computed.{text_from, counts_alone, unread_number, refusal_number, running}
-use Rattle.listing.proofs.Texts.{text-refused, text-counts, text-entry}
-use Rattle.listing.proofs.Otherwise.{table-unread, not_counts, not_entry}
+use Rattle.listing.proofs.Texts.{text_refused, text_counts, text_entry}
+use Rattle.listing.proofs.Otherwise.{table_unread, not_counts, not_entry}
 use Rattle.fresh.proofs.Refusals.{counts_fit_lem}
 use Rattle.listing.proofs.Tables.{Entered, counts_tasks, counts_tested, entered_none, entered_more, entry_tested, fresh_refused, fresh_made, whole_accepted}
 use Rattle.listing.proofs.SoFar.{running_is}
 
 module _ (file : List ℕ) where
-  pub counts-unread
+  pub counts_unread
       : (x : Read) (n : ℕ) → read_at file 0 ≡ x → OneOf (1 ∷ 2 ∷ []) (tag_of reading.the_type x) → n ≡ unread_number x
       → stop_line 0 n ≡ text_from file beginning 0
-  counts-unread x n g o u = sym (table-unread file 0 beginning x n refl g o u)
+  counts_unread x n g o u = sym (table_unread file 0 beginning x n refl g o u)
 
-  pub counts-wrong
+  pub counts_wrong
       : (x : Record) (q : Place) → read_at file 0 ≡ Got x q → OneOf (1 ∷ 2 ∷ []) (tag_of recorded.the_type x) → stop_line 0 32 ≡ text_from file beginning 0
-  counts-wrong x q g o = sym (text-refused file 0 beginning q x 32 g (not_counts x o))
+  counts_wrong x q g o = sym (text_refused file 0 beginning q x 32 g (not_counts x o))
 
   module _ (p t r : ℕ) (q : Place) (g : read_at file 0 ≡ Got (Counts p t r) q) (a : FreshAnswer) (asked : a ≡ (fresh_of (counts_alone p t r)).answer) where
     pub counts_stop : (m n : ℕ) → a ≡ Refused m → n ≡ refusal_number a → stop_line 0 n ≡ text_from file beginning 0
     unfolding fresh_of
     counts_stop m n f u =
         rw (u ∙ ap refusal_number f)
-        (sym (text-refused file 0 beginning q (Counts p t r) m g (sym (counts_tested p t r) ∙ fresh_refused (counts_alone p t r) _ m (sym asked ∙ f))))
+        (sym (text_refused file 0 beginning q (Counts p t r) m g (sym (counts_tested p t r) ∙ fresh_refused (counts_alone p t r) _ m (sym asked ∙ f))))
 
     module _ (f : a ≡ Made) where
       none_told : counts_refusal (counted_table p t r) ≡ none
@@ -67,7 +67,7 @@ module _ (file : List ℕ) where
       counts_good = counts_fit_lem (counted_table p t r) none_told
 
       pub counts_text : text_from file (started (entering (counted_table p t r) 0)) q.at ≡ text_from file beginning 0
-      counts_text = sym (text-counts file 0 beginning q p t r g none_told)
+      counts_text = sym (text_counts file 0 beginning q p t r g none_told)
 
 abbrev pub table_of : ℕ → ℕ → ℕ → List Entry → Table
 table_of p t r entry = record { processors = p; tasks = t; resources = r; entry = entry }
@@ -96,25 +96,25 @@ module _ {file : List ℕ} {p t r from : ℕ} where
 
     -- the three ways to stop there
     module _ (l : k < t) where
-      pub begun-unread
+      pub begun_unread
           : (x : Read) (n : ℕ) → read_at file at ≡ x → OneOf (1 ∷ 2 ∷ []) (tag_of reading.the_type x) → n ≡ unread_number x
           → stop_line at n ≡ text_from file (started (entering (counted_table p t r) 0)) from
-      begun-unread x n g o u = sym (table-unread file at (started (entering (table_of p t r entry) k)) x n refl g o u) ∙ begun_text l
+      begun_unread x n g o u = sym (table_unread file at (started (entering (table_of p t r entry) k)) x n refl g o u) ∙ begun_text l
 
-      pub begun-wrong
+      pub begun_wrong
           : (x : Record) (q : Place) → read_at file at ≡ Got x q → OneOf (0 ∷ 2 ∷ []) (tag_of recorded.the_type x)
           → stop_line at 32 ≡ text_from file (started (entering (counted_table p t r) 0)) from
-      begun-wrong x q g o =
-          sym (text-refused file at (started (entering (table_of p t r entry) k)) q x 32 g (not_entry (table_of p t r entry) k x o)) ∙ begun_text l
+      begun_wrong x q g o =
+          sym (text_refused file at (started (entering (table_of p t r entry) k)) q x 32 g (not_entry (table_of p t r entry) k x o)) ∙ begun_text l
 
       module _ (e : Entry) (a : FreshAnswer) (asked : a ≡ (fresh_of (table_of p (k + 1) r (set entry k e))).answer) where
-        pub begun-refused
+        pub begun_refused
             : (q : Place) (m n : ℕ) → read_at file at ≡ Got (Reservation e) q → a ≡ Refused m → n ≡ refusal_number a
             → stop_line at n ≡ text_from file (started (entering (counted_table p t r) 0)) from
         unfolding fresh_of
-        begun-refused q m n g f u =
+        begun_refused q m n g f u =
             rw (u ∙ ap refusal_number f)
-            (sym (text-refused file at (started (entering (table_of p t r entry) k)) q (Reservation e) m g
+            (sym (text_refused file at (started (entering (table_of p t r entry) k)) q (Reservation e) m g
             (sym (entry_tested (table_of p t r entry) k e h.entered l) ∙ fresh_refused (table_of p (k + 1) r (set entry k e)) _ m (sym asked ∙ f)))
             ∙ begun_text l)
 
@@ -130,7 +130,7 @@ module _ {file : List ℕ} {p t r from : ℕ} where
         record {
           entered = entered_more (table_of p t r entry) k e h.entered l a;
           inside = (read_moves file at (Reservation e) q g).1;
-          same = sym (text-entry file at (started (entering (table_of p t r entry) k)) q e g a) ∙ begun_text l;
+          same = sym (text_entry file at (started (entering (table_of p t r entry) k)) q e g a) ∙ begun_text l;
         }
 
     -- where all are read
@@ -141,8 +141,8 @@ module _ {file : List ℕ} {p t r from : ℕ} where
     pub begun_sound : t ≤ k → (st : State) → st ≡ fresh_state (table_of p t r entry) → Shaped st × (sound st ≡ true)
     begun_sound l st e = rw e (fresh_shaped (table_of p t r entry), fresh_sound (table_of p t r entry) (begun_accepted l))
 
-    pub begun-done
+    pub begun_done
         : t ≤ k → text_from file (running (fresh_state (table_of p t r entry)) 0) at ≡ text_from file (started (entering (counted_table p t r) 0)) from
-    begun-done l =
+    begun_done l =
         sym (running_is file (table_of p t r entry) (fresh_state (table_of p t r entry)) 0 at)
         ∙ (rw (eq-eqb k t (le_antisymm h.entered.most l)) at h.same)

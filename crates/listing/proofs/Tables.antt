@@ -15,7 +15,7 @@ use borrow.Author.Tests.{lt-ltb, le-ltb, ltb-true}
 use Rattle.laws.specs.Tests.{first_of}
 use Rattle.laws.specs.Loops.{fold_to}
 use Rattle.laws.proofs.Cases.{split, or_none}
-use Rattle.laws.proofs.Fold.{fold-keeps, last_or_below}
+use Rattle.laws.proofs.Fold.{fold_keeps, last_or_below}
 use Rattle.model.specs.declared.Entry.{Entry}
 use Rattle.model.specs.declared.Table.{Table}
 use Rattle.model.specs.declared.FreshAnswer.TheVariants.{Made, Refused}
@@ -35,12 +35,12 @@ pub counts_tasks : (p t r : ℕ) → counts_fit p t r ≡ true → (1 ≤ t) × 
 counts_tasks p t r e = let f = (counts_fact p t r).holds e in (f.0.0.1, f.0.1)
 
 -- what was refused stays refused, and what no task refuses is not refused
-none-refused
+none_refused
     : (tb : Table) (n : ℕ) → ((i : ℕ) → i < n → i < tb.tasks → entry_refusal tb.resources (entry_at tb i) ≡ none)
     → fold_to n (task_refusal tb) none ≡ none
 unfolding task_refusal
-none-refused tb n h =
-    fold-keeps (λ x. x ≡ none) (task_refusal tb) n
+none_refused tb n h =
+    fold_keeps (λ x. x ≡ none) (task_refusal tb) n
     (λ i l x p. rw p (split (ltb i tb.tasks) (λ y. rw y (h i l (ltb-true _ _ y))) (λ y. rw y)))
     none refl
 
@@ -56,7 +56,7 @@ counts_tested p t r =
     (counts_fit p t r)
     (λ y.
     rw (counts_accepted (counts_alone p t r) y, counts_accepted (counted_table p t r) y)
-    (none-refused (counts_alone p t r) places (λ i l m. rw (get_or-replicate places i blameless no_entry l) (blameless_accepted r))))
+    (none_refused (counts_alone p t r) places (λ i l m. rw (get_or-replicate places i blameless no_entry l) (blameless_accepted r))))
     (λ n. rw (counts_refused (counts_alone p t r) n, counts_refused (counted_table p t r) n) (refused_stays (counts_alone p t r) places 19))
 
 -- k entries of the table read, and none refused
@@ -68,7 +68,7 @@ pub record Entered (tb : Table) (k : ℕ) : Type 0 where
 
 pub whole_accepted : (tb : Table) → Entered tb tb.tasks → fresh_refusal tb ≡ none
 unfolding fresh_refusal
-whole_accepted tb h = rw (counts_accepted tb h.fit) (none-refused tb places (λ i l m. h.good i m))
+whole_accepted tb h = rw (counts_accepted tb h.fit) (none_refused tb places (λ i l m. h.good i m))
 
 pub entered_none : (p t r : ℕ) → counts_fit p t r ≡ true → Entered (counted_table p t r) 0
 entered_none p t r e = record { fit = e; most = omega arith; whole = refl; good = λ i l. absurd (omega arith) }
@@ -110,7 +110,7 @@ module _ (tb : Table) (k : ℕ) (e : Entry) (h : Entered tb k) (l : k < tb.tasks
       ⊎_elim
       (λ (q : k ≡ j).
       rw (← q)
-      (rw (none-refused so_far k (λ i a b. old_good i a), lt-ltb k (k + 1) (omega arith), new_entry)))
+      (rw (none_refused so_far k (λ i a b. old_good i a), lt-ltb k (k + 1) (omega arith), new_entry)))
       (λ (q : k < j). rw (refusal_to_lem j q, le-ltb j (k + 1) (omega arith)) (or_none _))
       (last_or_below k j m)
 

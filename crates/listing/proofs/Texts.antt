@@ -32,27 +32,27 @@ module _ (file : List ℕ) (at : ℕ) where
 
   module _ (p : Progress) (q : Place) where
     -- a record, by the refusal that it meets where it stands
-    text-got
+    text_got
         : (r : Record) → read_at file at ≡ Got r q
         → text_from file p at ≡ record_text (λ next. text_from file next q.at) p at (order_refusal p.stage r) r
     unfolding text_from
-    text-got r e = text_reads p (Got r q) e
+    text_got r e = text_reads p (Got r q) e
 
-    pub text-refused
+    pub text_refused
         : (r : Record) (n : ℕ) → read_at file at ≡ Got r q → order_refusal p.stage r ≡ some n → text_from file p at ≡ stop_line at n
-    text-refused r n e f = text-got r e ∙ ap (λ o. record_text (λ next. text_from file next q.at) p at o r) f
+    text_refused r n e f = text_got r e ∙ ap (λ o. record_text (λ next. text_from file next q.at) p at o r) f
 
-    pub text-counts
+    pub text_counts
         : (a b c : ℕ) → read_at file at ≡ Got (Counts a b c) q → order_refusal p.stage (Counts a b c) ≡ none
         → text_from file p at ≡ text_from file (started (advanced p.stage (Counts a b c))) q.at
-    text-counts a b c e f = text-got (Counts a b c) e ∙ ap (λ o. record_text (λ next. text_from file next q.at) p at o (Counts a b c)) f
+    text_counts a b c e f = text_got (Counts a b c) e ∙ ap (λ o. record_text (λ next. text_from file next q.at) p at o (Counts a b c)) f
 
-    pub text-entry
+    pub text_entry
         : (x : Entry) → read_at file at ≡ Got (Reservation x) q → order_refusal p.stage (Reservation x) ≡ none
         → text_from file p at ≡ text_from file (started (advanced p.stage (Reservation x))) q.at
-    text-entry x e f = text-got (Reservation x) e ∙ ap (λ o. record_text (λ next. text_from file next q.at) p at o (Reservation x)) f
+    text_entry x e f = text_got (Reservation x) e ∙ ap (λ o. record_text (λ next. text_from file next q.at) p at o (Reservation x)) f
 
-    pub text-event
+    pub text_event
         : (x : Event) → read_at file at ≡ Got (Happening x) q → order_refusal p.stage (Happening x) ≡ none
         → text_from file p at ≡ event_line (p.events + 1) (stepped p.state x).answer ++ text_from file (continued p x) q.at
-    text-event x e f = text-got (Happening x) e ∙ ap (λ o. record_text (λ next. text_from file next q.at) p at o (Happening x)) f
+    text_event x e f = text_got (Happening x) e ∙ ap (λ o. record_text (λ next. text_from file next q.at) p at o (Happening x)) f

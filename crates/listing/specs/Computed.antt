@@ -17,13 +17,13 @@ use Rattle.listing.specs.Listing.{Progress, items_text}
 unfoldable pub text_from : List ℕ → Progress → ℕ → List ℕ
 text_from file p at = items_text (items_at file at) p
 
--- what is told where a record of the table cannot be read: the fault, or 32 (rule 13.6, law `table-unread`)
+-- what is told where a record of the table cannot be read: the fault, or 32 (rule 13.6, law `table_unread`)
 abbrev pub unread_number : Read → ℕ
 unread_number (Got r p) = 32
 unread_number End = 32
 unread_number (Fault n) = n
 
--- the number of fresh's refusal, 0 where it made a state (laws `counts_stop` and `begun-refused`)
+-- the number of fresh's refusal, 0 where it made a state (laws `counts_stop` and `begun_refused`)
 abbrev pub refusal_number : FreshAnswer → ℕ
 refusal_number Made = 0
 refusal_number (Refused n) = n

@@ -82,12 +82,12 @@ tenth_told : tenth (listing (trace_of table_r events_r)) ≡ 101
 unfolding tenth bytes
 tenth_told = ap (λ text. get_or text 9 0) (nth 0 marked)
 
-pub not-echoing
+pub not_echoing
     : (f : List ℕ → List ℕ) → ((file : List ℕ) → f file ≡ listing file) → (end : Table → List Event → List ℕ)
     → ((tb : Table) (e : Event) (es : List Event) →
     f (trace_of tb (e ∷ es)) ≡ echoed (stepped (fresh_state tb) e).answer 1 (e ∷ es) ++ end tb (e ∷ es))
     → ⊥
-not-echoing f meets end always =
+not_echoing f meets end always =
     let same : echoed (Ok 1) 1 events_r ++ end table_r events_r ≡ listing (trace_of table_r events_r) =
     ap (λ a. echoed a 1 events_r ++ end table_r events_r) (sym first_wake.0) ∙ sym (always table_r (wake 2) (drop 1 events_r)) ∙ meets (trace_of table_r events_r) in
     let z : ◌≡◌ {A = ℕ} 111 101 = sym (tenth_echoed (end table_r events_r)) ∙ ap tenth same ∙ tenth_told in
@@ -106,18 +106,18 @@ least_is n short enough =
 
 module _ (f : Sections → ℕ → ℕ → Bounded) (meets : (s : Sections) (t allowance : ℕ) → f s t allowance ≡ answer s t allowance) where
   -- four weighings are spent on task 0, and no other number may be told
-  pub not-inventing
+  pub not_inventing
       : (invented : Sections → ℕ → ℕ) → (invented three_tasks 0 ≡ 4 → ⊥) → ((s : Sections) (t allowance : ℕ) → (said (f s t allowance)).weighings ≡ invented s t)
       → ⊥
-  not-inventing invented other always =
+  not_inventing invented other always =
       other (sym (always three_tasks 0 1000000) ∙ ap (λ b. (said b).weighings) (meets three_tasks 0 1000000 ∙ nth 9 marked))
 
   -- an allowance of three is exceeded and one of four is not, so that no other number may be the least that is enough
-  pub not-exhausting
+  pub not_exhausting
       : (least : Sections → ℕ → ℕ) → (least three_tasks 0 ≡ 4 → ⊥)
       → ((s : Sections) (t allowance : ℕ) → (said (f s t allowance)).refused ≡ exhausted (least s t) allowance)
       → ⊥
-  not-exhausting least other always =
+  not_exhausting least other always =
       other (least_is (least three_tasks 0)
       (sym (always three_tasks 0 3) ∙ ap (λ b. (said b).refused) (meets three_tasks 0 3 ∙ nth 12 marked))
       (sym (always three_tasks 0 4) ∙ ap (λ b. (said b).refused) (meets three_tasks 0 4 ∙ nth 13 marked)))

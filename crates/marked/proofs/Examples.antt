@@ -44,10 +44,10 @@ use Rattle.marked.specs.Bounds.{calculations}
 use Rattle.marked.specs.Further.{further}
 
 -- every sound state refuses such an elapse
-elapse-refused
+elapse_refused
     : (n : ℕ) → (eqb n 0 || ltb 1000000 n) ≡ true → (st : State) → sound st ≡ true → stepped st (Elapse n) ≡ record { answer = Refused 10; state = st }
 unfolding stepped attempted first_of
-elapse-refused n e st h = rw (h, e)
+elapse_refused n e st h = rw (h, e)
 
 -- the first event of case R has an answer and a change of its own
 abbrev pub FirstWake : Type 0
@@ -75,7 +75,7 @@ unfolding first_of count_to all_to sum_to set_to fold_to better_of best_to join_
     clauses.waitingFits clauses.waitersHere clauses.stacksAgree clauses.queuesAgree clauses.ownerDeclares clauses.waiterDeclares clauses.allHeldDeclared
     clauses.allAwaitedDeclared clauses.ownFits clauses.lentFits clauses.spinFits clauses.executedFits clauses.sumFits clauses.brokenOf clauses.broken filled_server
 examples = (
-  refl and refl and refl and elapse-refused 0 refl and elapse-refused 1000001 refl and refl and refl and refl and refl and
+  refl and refl and refl and elapse_refused 0 refl and elapse_refused 1000001 refl and refl and refl and refl and refl and
       refl and refl and refl and refl and refl and refl and refl and refl and nothing,
   refl and refl and refl and refl and refl and refl and refl and refl and refl and refl and refl and refl and refl and refl and refl and nothing,
   refl and refl and refl and refl and refl and refl and refl and refl and nothing,

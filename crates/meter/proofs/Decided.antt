@@ -43,11 +43,11 @@ module _ (st : State) (fit : st.tasks ≤ places) where
   tasks_counted : count_to places (here st) ≡ st.tasks
   tasks_counted = omega (arith, count_ext places (here st) _ (λ i l. here_is i), count_below places st.tasks)
 
-  row-chosen
+  row_chosen
       : (rows : List Row) (i : ℕ)
       → (if ltb i st.tasks then row_of st i else get_or rows i no_row) ≡ (if ltb i places then metered_row st rows i else get_or rows i no_row)
   unfolding metered_row
-  row-chosen rows i =
+  row_chosen rows i =
       split
       (ltb i places)
       (λ y. rw (y, here_is i))
@@ -59,7 +59,7 @@ module _ (st : State) (fit : st.tasks ≤ places) where
       ext_get_or no_row _ _ (length_set_to _ _ rows ∙ sym (length_set_to _ _ rows))
       (λ i l.
       let m : i < length rows = omega (arith, length_set_to st.tasks (row_of st) rows) in
-      set_cases _ i _ rows no_row m ∙ row-chosen rows i ∙ sym (set_cases _ i _ rows no_row m))
+      set_cases _ i _ rows no_row m ∙ row_chosen rows i ∙ sym (set_cases _ i _ rows no_row m))
 
 sound_fit : (st : State) → sound st ≡ true → st.tasks ≤ places
 sound_fit st e = ((sound_facts st).holds e).is_loose.tasks_most

@@ -45,13 +45,13 @@ module _ (st : State) (rows : List Row) where
         ∙ sym (get_or-eq_default rows no_row past))
     stays_by (some n) e = refl
 
-    receives-by
+    receives_by
         : (r : Option ℕ) → (r ≡ none → st.tasks ≤ length rows) → (said (meter_by r st rows).0).0 ≡ ok → here st s ≡ true
         → get_or (meter_by r st rows).1 s no_row ≡ row_of st s
     unfolding metered_rows metered_row
-    receives-by none enough a e =
+    receives_by none enough a e =
         set_at_lem places s (metered_row st rows) rows no_row (here_below st s e) (omega (arith, here_tasks st s e, enough refl)) ∙ rw e
-    receives-by (some n) enough a e = let z : ◌≡◌ {A = ℕ} 0 1 = cc in absurd (omega arith)
+    receives_by (some n) enough a e = let z : ◌≡◌ {A = ℕ} 0 1 = cc in absurd (omega arith)
 
 -- a function of a state and of lent rows, which gives its answer and the rows at exit; and what `fill` ensures of it
 abbrev pub Metering : Type 0
@@ -72,7 +72,7 @@ module _ (f : Metering) (meets : Meets f) (st : State) (rows : List Row) where
   unfolding metered
   row_received s a e =
       ap (λ l. get_or l s no_row) (meets st rows).1
-      ∙ receives-by st rows s (meter_refusal st (length rows)) (accepted_enough st (length rows)) (ap (λ b. (said b).0) (sym (meets st rows).0) ∙ a) e
+      ∙ receives_by st rows s (meter_refusal st (length rows)) (accepted_enough st (length rows)) (ap (λ b. (said b).0) (sym (meets st rows).0) ∙ a) e
 
   -- the others stay, and there are as many as before
   pub others_stay : (s : ℕ) → here st s ≡ false → get_or (f st rows).1 s no_row ≡ get_or rows s no_row

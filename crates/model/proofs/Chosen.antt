@@ -21,11 +21,11 @@ chosen_serves st t l = ⊎_elim (λ n. absurd (omega (arith, n.is_none))) (λ s.
 pub chosen_some : (st : State) (t s : ℕ) → s < places → running_for st t s ≡ true → chosen st t < places
 chosen_some st t s l h = ⊎_elim (λ n. holds_fails h (n.nobody s l)) (λ b. b.inside) (chosen_best st t)
 
-pub chosen-alone
+pub chosen_alone
     : (st u : State) (t v : ℕ)
     → ((s : ℕ) → s < places → running_for st t s ≡ running_for u v s)
     → ((s : ℕ) → s < places → running_for st t s ≡ true → budget_at st s ≡ budget_at u s)
     → chosen st t ≡ chosen u v
 unfolding chosen
-chosen-alone st u t v same budgets =
+chosen_alone st u t v same budgets =
     best_ext nobody places (running_for st t) (running_for u v) (budget_at st) (budget_at u) same budgets (omega arith)

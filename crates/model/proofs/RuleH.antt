@@ -9,7 +9,7 @@ use lib.Dec.{ltb}
 use lib.ListN.{length}
 use borrow.Author.Tests.{eqb-true, lt-ltb, ltb-true, ltb-false}
 use Rattle.laws.proofs.Cases.{split, holds_fails, and_left, and_right}
-use Rattle.laws.proofs.Set.{set_at_lem, setTo-keeps}
+use Rattle.laws.proofs.Set.{set_at_lem, set_to_keeps}
 use Rattle.model.specs.declared.Runs.TheVariants.{Nowhere}
 use Rattle.model.specs.declared.Runs.{Runs}
 use Rattle.model.specs.declared.Task.{Task}
@@ -94,23 +94,23 @@ placed_runs : (s : ℕ) → placed (runs_in s) ≡ true → s < places
 placed_runs s h = split (ltb s places) (λ y. ltb-true s places y) (λ n. holds_fails (rw n at h) refl)
 
 -- rule H leaves every field of a task but one
-pub settled-task
+pub settled_task_lem
     : (R : Task → Task → Type 0) → ((k : Task) → R k k) → ((x : Runs) (k : Task) → R (with_runs x k) k) → (old st : State) (acting t : ℕ)
     → R (task_at (settled old acting st) t) (task_at st t)
 unfolding settled settled_task
-settled-task R self blind old st acting t =
-    setTo-keeps R no_task self places _ st.task t
+settled_task_lem R self blind old st acting t =
+    set_to_keeps R no_task self places _ st.task t
     (λ j. split (here st j) (λ h. rw h (blind _ (task_at st j))) (λ n. rw n (self (task_at st j))))
 
-pub settled-field
+pub settled_field
     : {A : Type 0} (f : Task → A) → ((x : Runs) (k : Task) → f (with_runs x k) ≡ f k) → (old st : State) (acting t : ℕ)
     → f (task_at (settled old acting st) t) ≡ f (task_at st t)
-settled-field f = settled-task (λ k l. f k ≡ f l) (λ k. refl)
+settled_field f = settled_task_lem (λ k l. f k ≡ f l) (λ k. refl)
 
 module _ (old st : State) (acting : ℕ) where
   -- a task keeps its mode, so that no chain changes
   settled_mode : (t : ℕ) → (task_at (settled old acting st) t).mode ≡ (task_at st t).mode
-  settled_mode = settled-field (λ k. k.mode) (λ x k. refl) old st acting
+  settled_mode = settled_field (λ k. k.mode) (λ x k. refl) old st acting
 
   pub settled_here : (i : ℕ) → here (settled old acting st) i ≡ here st i
   unfolding settled here
@@ -151,21 +151,21 @@ module _ (old st : State) (acting : ℕ) where
     settled_keeps h = settled_executor ∙ by_first st (executor_of old t) acting t h
 
     -- rule 6.2
-    pub settled-hands
+    pub settled_hands
         : running_for st t (executor_of old t) ≡ false → running_for st t acting ≡ true → executor_of (settled old acting st) t ≡ acting
-    settled-hands f h = settled_executor ∙ by_second st (executor_of old t) acting t f h
+    settled_hands f h = settled_executor ∙ by_second st (executor_of old t) acting t f h
 
     -- rule 6.3
-    pub settled-chooses
+    pub settled_chooses
         : running_for st t (executor_of old t) ≡ false → running_for st t acting ≡ false → executor_of (settled old acting st) t ≡ chosen st t
-    settled-chooses f g = settled_executor ∙ by_third st (executor_of old t) acting t f g
+    settled_chooses f g = settled_executor ∙ by_third st (executor_of old t) acting t f g
 
     -- who executes is Running and serves
-    pub settled-serves
+    pub settled_serves
         : executing (settled old acting st) t ≡ true
         → running_for (settled old acting st) t (executor_of (settled old acting st) t) ≡ true
     unfolding executing
-    settled-serves h =
+    settled_serves h =
         let l = placed_runs _ (sym (ap placed settled_runs) ∙ and_right (here (settled old acting st) t) _ h) in
         settled_for t _ ∙ rw settled_executor (by_serves st (executor_of old t) acting t l)
 
@@ -179,10 +179,10 @@ module _ (old st : State) (acting : ℕ) where
         (λ n. settled_runs ∙ rw n)
 
   -- a task that a Running server serves executes
-  pub settled-some
+  pub settled_some
       : (t s : ℕ) → t < length st.task → running_for (settled old acting st) t s ≡ true → executing (settled old acting st) t ≡ true
   unfolding executing
-  settled-some t s inside h =
+  settled_some t s inside h =
       let serves : running_for st t s ≡ true = sym (settled_for t s) ∙ h in
       let used : here st t ≡ true = serving_here st t s serves in
       rw (settled_here t, used, settled_runs t used inside) (runs_placed _ (by_some st (executor_of old t) acting t s serves))

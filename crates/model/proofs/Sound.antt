@@ -9,7 +9,7 @@ use lib.Dec.{eqb}
 use lib.ListN.{get_or}
 use Rattle.laws.specs.Tests.{bit}
 use Rattle.laws.specs.Loops.{count_to, all_to}
-use Rattle.laws.proofs.Reflect.{Reflects, reflects_self, reflects_le, reflects_lt, reflects_eq, reflects_change, reflects_not, reflects_and, reflects_or, reflects_implies, reflects_iff, reflects-all}
+use Rattle.laws.proofs.Reflect.{Reflects, reflects_self, reflects_le, reflects_lt, reflects_eq, reflects_change, reflects_not, reflects_and, reflects_or, reflects_implies, reflects_iff, reflects_all}
 use Rattle.model.specs.declared.State.{State}
 use Rattle.model.specs.State.{places, server_at, task_at, resource_at, here, present, declares, idle, recharging, suspended, waiting, awaited, owned, owner_no, placed, executor_number, served, running_at, running_for}
 use Rattle.model.specs.Sound.{if_here, each, if_present, each_resource, counts_fit, quota_fits, clock_limit, sizes_fit, reservation_fits, declaration_fits, deadline_fits, budget_fits, empty_recharges, seated, held_at, queued_at, stack_place_fits, stack_fits, queue_place_fits, queue_fits, owner_fits, wait_fits, stack_agrees, queue_agrees, entries_agree, unowned_unqueued, used_declared, all_declared, chain_open, idle_fits, executor_fits, served_executes, accounts_fit, loose, sound}
@@ -23,25 +23,25 @@ abbrev pub EachResource : State → (ℕ → Type 0) → Type 0
 EachResource st P = (r : ℕ) → present st r ≡ true → P r
 
 -- a test over the places that asks only of those in use, where `used` says which are
-each-by
+each_by
     : (used q : ℕ → Bool) (P : ℕ → Type 0)
     → ((i : ℕ) → used i ≡ true → i < places)
     → ((i : ℕ) → Reflects (q i) (used i ≡ true → P i))
     → Reflects (all_to places q) ((i : ℕ) → used i ≡ true → P i)
-each-by used q P below r =
+each_by used q P below r =
     reflects_change
-    (reflects-all places q (λ i. used i ≡ true → P i) (λ i l. r i))
+    (reflects_all places q (λ i. used i ≡ true → P i) (λ i l. r i))
     (λ h i u. h i (below i u) u)
     (λ h i l u. h i u)
 
 pub each_fact : (st : State) (p : ℕ → Bool) (P : ℕ → Type 0) → ((i : ℕ) → Reflects (p i) (P i)) → Reflects (each st p) (Each st P)
 unfolding each if_here
-each_fact st p P r = each-by (here st) _ P (here_below st) (λ i. reflects_implies (reflects_self (here st i)) (r i))
+each_fact st p P r = each_by (here st) _ P (here_below st) (λ i. reflects_implies (reflects_self (here st i)) (r i))
 
-pub each-resource-fact
+pub each_resource_fact
     : (st : State) (p : ℕ → Bool) (P : ℕ → Type 0) → ((r : ℕ) → Reflects (p r) (P r)) → Reflects (each_resource st p) (EachResource st P)
 unfolding each_resource if_present
-each-resource-fact st p P r = each-by (present st) _ P (present_below st) (λ i. reflects_implies (reflects_self (present st i)) (r i))
+each_resource_fact st p P r = each_by (present st) _ P (present_below st) (λ i. reflects_implies (reflects_self (present st i)) (r i))
 
 -- the limits that a table and a state share: counts, and a quota with its period
 abbrev pub Counts : ℕ → ℕ → ℕ → Type 0
@@ -112,7 +112,7 @@ module _ (st : State) (i : ℕ) where
 
   pub stack_fact : Reflects (stack_fits st i) Stack
   unfolding stack_fits stack_place_fits
-  stack_fact = reflects_and (reflects_le _ _) (reflects-all places _ _ (λ j l. reflects_implies (reflects_lt _ _) (reflects_self _)))
+  stack_fact = reflects_and (reflects_le _ _) (reflects_all places _ _ (λ j l. reflects_implies (reflects_lt _ _) (reflects_self _)))
 
   abbrev pub Queue : Type 0
   Queue =
@@ -121,7 +121,7 @@ module _ (st : State) (i : ℕ) where
 
   pub queue_fact : Reflects (queue_fits st i) Queue
   unfolding queue_fits queue_place_fits
-  queue_fact = reflects_and (reflects_le _ _) (reflects-all places _ _ (λ j l. reflects_implies (reflects_lt _ _) (reflects_self _)))
+  queue_fact = reflects_and (reflects_le _ _) (reflects_all places _ _ (λ j l. reflects_implies (reflects_lt _ _) (reflects_self _)))
 
   abbrev pub Owned : Type 0
   Owned = owned (resource_at st i).owner ≡ true → here st (owner_no (resource_at st i).owner) ≡ true
@@ -145,7 +145,7 @@ module _ (st : State) (i : ℕ) where
 
   pub agree_fact : Reflects (entries_agree st i) Agree
   unfolding entries_agree stack_agrees queue_agrees
-  agree_fact = reflects_and (each-resource-fact st _ _ (λ r. reflects_eq _ _)) (each-resource-fact st _ _ (λ r. reflects_eq _ _))
+  agree_fact = reflects_and (each_resource_fact st _ _ (λ r. reflects_eq _ _)) (each_resource_fact st _ _ (λ r. reflects_eq _ _))
 
   abbrev pub Unqueued : Type 0
   Unqueued = (owned (resource_at st i).owner ≡ true → ⊥) → (resource_at st i).waiting ≡ 0
@@ -159,7 +159,7 @@ module _ (st : State) (i : ℕ) where
 
   pub declared_fact : Reflects (all_declared st i) Declared
   unfolding all_declared used_declared
-  declared_fact = each-resource-fact st _ _ (λ r. reflects_implies (reflects_or (reflects_eq _ _) (reflects_eq _ _)) (reflects_self _))
+  declared_fact = each_resource_fact st _ _ (λ r. reflects_implies (reflects_or (reflects_eq _ _) (reflects_eq _ _)) (reflects_self _))
 
   pub open_fact : Reflects (chain_open st i) (Open st i)
   unfolding chain_open
@@ -244,11 +244,11 @@ loose_facts st =
     (each_fact st _ _ (budget_fact st)))
     (each_fact st _ _ (empty_fact st)))
     (each_fact st _ _ (stack_fact st)))
-    (each-resource-fact st _ _ (queue_fact st)))
-    (each-resource-fact st _ _ (owner_fact st)))
+    (each_resource_fact st _ _ (queue_fact st)))
+    (each_resource_fact st _ _ (owner_fact st)))
     (each_fact st _ _ (wait_fact st)))
     (each_fact st _ _ (agree_fact st)))
-    (each-resource-fact st _ _ (unqueued_fact st)))
+    (each_resource_fact st _ _ (unqueued_fact st)))
     (each_fact st _ _ (declared_fact st)))
     (each_fact st _ _ (open_fact st)))
     (each_fact st _ _ (idles_fact st)))

@@ -11,11 +11,11 @@ use Rattle.laws.proofs.Reflect.{Reflects, reflects_le, reflects_or, reflects_cha
 use Rattle.model.specs.declared.Server.{Server}
 use Rattle.model.specs.Events.{refills_at}
 
-pub refills-fact
+pub refills_fact
     : (clock : ℕ) (x : Server)
     → Reflects (refills_at clock x) ((x.deadline ≤ clock) ⊎ ((x.deadline - clock) * x.quota ≤ x.budget * x.period))
 unfolding refills_at
-refills-fact clock x = reflects_or (reflects_le x.deadline clock) (reflects_le ((x.deadline - clock) * x.quota) (x.budget * x.period))
+refills_fact clock x = reflects_or (reflects_le x.deadline clock) (reflects_le ((x.deadline - clock) * x.quota) (x.budget * x.period))
 
 -- the share until the deadline is that of the time until now and of the time from now on
 until : (clock deadline quota : ℕ) → clock ≤ deadline → deadline * quota ≡ (deadline - clock) * quota + clock * quota
@@ -26,7 +26,7 @@ until clock deadline quota l =
 -- filled anew exactly where the share until the deadline is covered by that until now and what is left
 pub refills_covered : (clock : ℕ) (x : Server) → Reflects (refills_at clock x) (x.deadline * x.quota ≤ clock * x.quota + x.budget * x.period)
 refills_covered clock x =
-    reflects_change (refills-fact clock x)
+    reflects_change (refills_fact clock x)
     (⊎_elim
     (λ l. omega (arith, mul-le-mul_right x.quota l))
     (λ l.

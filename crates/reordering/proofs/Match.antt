@@ -211,12 +211,12 @@ module _ {E : Type 0} (kind : E → Kind) where
     lift_to_from zero a h = refl
     lift_to_from (suc i) a h = ap suc (m.to_from i a h)
 
-    lift-order
+    lift_order
         : (i j : ℕ) (a b : E) → i < j → at (e ∷ xs) i ≡ some a → at (e ∷ xs) j ≡ some b → Bound (kind a) (kind b) → lift m.to i < lift m.to j
-    lift-order zero zero a b l h k x = absurd (omega arith)
-    lift-order zero (suc j) a b l h k x = omega arith
-    lift-order (suc i) zero a b l h k x = absurd (omega arith)
-    lift-order (suc i) (suc j) a b l h k x = omega (arith, m.order i j a b (omega arith) h k x)
+    lift_order zero zero a b l h k x = absurd (omega arith)
+    lift_order zero (suc j) a b l h k x = omega arith
+    lift_order (suc i) zero a b l h k x = absurd (omega arith)
+    lift_order (suc i) (suc j) a b l h k x = omega (arith, m.order i j a b (omega arith) h k x)
 
     lifted : Matching kind (e ∷ xs) (e ∷ ys)
     lifted =
@@ -227,7 +227,7 @@ module _ {E : Type 0} (kind : E → Kind) where
           back = lift_back;
           from_to = lift_from_to;
           to_from = lift_to_from;
-          order = lift-order;
+          order = lift_order;
         }
 
   unmoved : (xs : List E) → Matching kind xs xs

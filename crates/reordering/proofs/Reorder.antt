@@ -17,18 +17,18 @@ module _
     (laws : Laws kind step free refused Good)
   where
     -- without refusals the run is the free run
-    pub like-free
+    pub like_free
         : (s : State)
         → Good s
         → (xs : List Event)
         → Never refused (log step s xs)
         → (log step s xs ≡ log free s xs) × (after step s xs ≡ after free s xs)
     unfolding log after Each
-    like-free s h [] n = (refl, refl)
-    like-free s h (e ∷ es) n =
+    like_free s h [] n = (refl, refl)
+    like_free s h (e ∷ es) n =
         let q : step s e ≡ free s e = laws.unlike s e h n.0 in
         let i : (log step (free s e).1 es ≡ log free (free s e).1 es) × (after step (free s e).1 es ≡ after free (free s e).1 es) =
-        like-free (free s e).1 (laws.keeps s e h) es (rw q at n.1) in
+        like_free (free s e).1 (laws.keeps s e h) es (rw q at n.1) in
         (rw (q, i.0) refl, rw (q, i.1) refl)
 
     -- swaps change nothing of a free run
@@ -59,6 +59,6 @@ module _
         → Reordered (entry kind) (log step s xs) (log step s ys) × (after step s xs ≡ after step s ys)
     reorder s h xs ys r m n =
         let t : Swaps kind xs ys = reordered_swaps kind xs ys r in (
-          rw ((like-free s h xs m).0, (like-free s h ys n).0) (swaps_reordered (entry kind) (free_log s h t)),
-          (like-free s h xs m).1 ∙ free_after s h t ∙ sym (like-free s h ys n).1,
+          rw ((like_free s h xs m).0, (like_free s h ys n).0) (swaps_reordered (entry kind) (free_log s h t)),
+          (like_free s h xs m).1 ∙ free_after s h t ∙ sym (like_free s h ys n).1,
         )

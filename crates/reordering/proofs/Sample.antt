@@ -12,8 +12,8 @@ use Rattle.reordering.specs.Order.{Apart, view, Reordered}
 use Rattle.reordering.specs.Run.{after, log, entry, Each, told_log}
 use Rattle.reordering.proofs.Swap.{front, swap, next, swaps_reordered}
 use Rattle.reordering.proofs.Toy.{Config, Event, elapse, dispatch, release, Answer, done, ran, refusal, Unrefused, kind, in_use, busy, within, tests, verdict, step, fresh}
-use Rattle.reordering.proofs.ToyReorder.{toy-reorder}
-use Rattle.reordering.proofs.ToyDelete.{Fine, told, toy-delete}
+use Rattle.reordering.proofs.ToyReorder.{toy_reorder}
+use Rattle.reordering.proofs.ToyDelete.{Fine, told, toy_delete}
 
 -- two tasks, each a group, and one processor
 abbrev two : Config
@@ -58,7 +58,7 @@ xs_ys =
     (front (dispatch 1) (swap (dispatch 0) (release 1) apart))))))
 
 pub same_end : after (step two) (fresh two) xs ≡ after (step two) (fresh two) ys
-same_end = (toy-reorder two xs ys xs_ys xs_fine ys_fine).1
+same_end = (toy_reorder two xs ys xs_ys xs_fine ys_fine).1
 
 -- whichever neighbours of xs change places, the dispatch of 1 is refused 8
 pub no_way
@@ -106,10 +106,10 @@ zs_fine : Each Fine (view (entry (kind pair)) 0 (log (step pair) (fresh pair) zs
 unfolding Each view log fresh verdict tests first_of in_use busy within count_to all_to set_to
 zs_fine = (done_refusal, (λ r. ran_refusal, tt))
 
-pub same-told
+pub same_told
     : told_log told (view (entry (kind pair)) 0 (log (step pair) (fresh pair) zs))
     ≡ told_log told (log (step pair) (fresh pair) (view (kind pair) 0 zs))
-same-told = (toy-delete pair 0 zs zs_fine).0
+same_told = (toy_delete pair 0 zs zs_fine).0
 
 ran_inj : {i j : ℕ} → ran i ≡ ran j → i ≡ j
 ran_inj p = cc

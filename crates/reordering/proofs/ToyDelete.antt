@@ -18,7 +18,7 @@ use Rattle.reordering.specs.Machine.{Deletes}
 use Rattle.reordering.proofs.Local.{group_inj, time_group}
 use Rattle.reordering.proofs.Delete.{delete}
 use Rattle.reordering.proofs.Toy.{Config, Task, State, Event, elapse, dispatch, release, Answer, done, ran, refusal, idle, task, runs, aged, kind, in_use, busy, fits, within, tests, act, verdict, step, Good, Seated, Agree, fresh}
-use Rattle.reordering.proofs.ToyLaws.{act_good, act_leaves, act_reads, act-both, runs_local, busy_local, fresh_good}
+use Rattle.reordering.proofs.ToyLaws.{act_good, act_leaves, act_reads, act_both, runs_local, busy_local, fresh_good}
 use Rattle.reordering.proofs.ToySeated.{aged_at, step_seated, fresh_seated}
 
 -- what a group hears: that time passed, or an answer
@@ -98,7 +98,7 @@ module _ (c : Config) (g : ℕ) where
   own_both : (s u : State) (e : Event) → kind c e ≡ group g → Sim s u → Fine e (step c s e).0 → Sim (step c s e).1 (step c u e).1
   own_both s u e k m f =
       record {
-        agree = rw (own_verdict s u e k m f) (act-both c g s u e (verdict c u e) k m.good m.good' m.agree);
+        agree = rw (own_verdict s u e k m f) (act_both c g s u e (verdict c u e) k m.good m.good' m.agree);
         rest = λ i x.
             sym (runs_local c (group_of i) u (step c u e).1 i refl (act_leaves c (group_of i) g u e (verdict c u e) k (λ q. x (sym q)))) ∙ m.rest i x;
         good = act_good c s e (verdict c s e) m.good;
@@ -112,29 +112,29 @@ module _ (c : Config) (g : ℕ) where
   within_both s u k m y =
       all_each (λ j. fits c k (task u j)) n (λ i l. by_group s u m i (λ q. ap (fits c k) (sym q) ∙ all_at (λ j. fits c k (task s j)) n i l y) (λ q. rw q refl))
 
-  time-verdicts
+  time_verdicts
       : (s u : State) (k : ℕ)
       → Sim s u
       → Fine (elapse k) (step c s (elapse k)).0
       → (verdict c s (elapse k) ≡ none) × (verdict c u (elapse k) ≡ none)
   unfolding verdict tests first_of
-  time-verdicts s u k m f =
+  time_verdicts s u k m f =
       let y : within c k s ≡ true =
       split (within c k s) (λ y. y) (λ x.
       let e : verdict c s (elapse k) ≡ some 12 = rw (uncrowded s u m, x) refl in
       absurd (f 12 (ap (λ v. (act c s (elapse k) v).0) e))) in
       (rw (uncrowded s u m, y) refl, rw (uncrowded' s u m, within_both s u k m y) refl)
 
-  time-told
+  time_told
       : (s u : State) (k : ℕ)
       → Sim s u
       → Fine (elapse k) (step c s (elapse k)).0
       → told (elapse k) (step c s (elapse k)).0 ≡ told (elapse k) (step c u (elapse k)).0
-  time-told s u k m f = let v = time-verdicts s u k m f in rw (v.0, v.1) refl
+  time_told s u k m f = let v = time_verdicts s u k m f in rw (v.0, v.1) refl
 
   time_both : (s u : State) (k : ℕ) → Sim s u → Fine (elapse k) (step c s (elapse k)).0 → Sim (step c s (elapse k)).1 (step c u (elapse k)).1
   time_both s u k m f =
-      let v = time-verdicts s u k m f in
+      let v = time_verdicts s u k m f in
       record {
         agree =
             rw (v.0, v.1) (
@@ -160,7 +160,7 @@ module _ (c : Config) (g : ℕ) where
       }
 
   answer : (s u : State) (e : Event) → sees g (kind c e) ≡ true → Sim s u → Fine e (step c s e).0 → told e (step c s e).0 ≡ told e (step c u e).0
-  answer s u (elapse k) y m f = time-told s u k m f
+  answer s u (elapse k) y m f = time_told s u k m f
   answer s u (dispatch t) y m f = ap said (own_answer s u (dispatch t) (ap group (eqb-true (group_of t) g y)) m f)
   answer s u (release t) y m f = ap said (own_answer s u (release t) (ap group (eqb-true (group_of t) g y)) m f)
 
@@ -189,9 +189,9 @@ module _ (c : Config) (g : ℕ) where
       }
 
   -- the deletion theorem, of this machine
-  pub toy-delete
+  pub toy_delete
       : (xs : List Event)
       → Each Fine (view (entry (kind c)) g (log (step c) (fresh c) xs))
       → (told_log told (view (entry (kind c)) g (log (step c) (fresh c) xs)) ≡ told_log told (log (step c) (fresh c) (view (kind c) g xs))) ×
       Agree c g (after (step c) (fresh c) xs) (after (step c) (fresh c) (view (kind c) g xs))
-  toy-delete xs f = let r = delete deletes (fresh c) (fresh c) start xs f in (r.0, r.1.agree)
+  toy_delete xs f = let r = delete deletes (fresh c) (fresh c) start xs f in (r.0, r.1.agree)

@@ -60,11 +60,11 @@ module _ (c : Config) where
   changed_both g s u (dispatch t) p a b h = put_both g s u t true (group_inj p) a b h
   changed_both g s u (release t) p a b h = put_both g s u t false (group_inj p) a b h
 
-  pub act-both
+  pub act_both
       : (g : ℕ) (s u : State) (e : Event) (v : Option ℕ)
       → kind c e ≡ group g → Good c s → Good c u → Agree c g s u → Agree c g (act c s e v).1 (act c u e v).1
-  act-both g s u e none p a b h = changed_both g s u e p a b h
-  act-both g s u e (some r) p a b h = h
+  act_both g s u e none p a b h = changed_both g s u e p a b h
+  act_both g s u e (some r) p a b h = h
 
   pub runs_local : (g : ℕ) (s u : State) (t : ℕ) → group_of t ≡ g → Agree c g s u → runs s t ≡ runs u t
   runs_local g s u t p h = ap (λ (x : Task). x.running) (h.1 t p)
@@ -88,7 +88,7 @@ module _ (c : Config) where
   reads g s u e p a b h = ap (λ v. (act c s e v).0) (freed_local g s u e p h) ∙ act_reads g s u e (freed c u e) p
 
   writes : (g : ℕ) (s u : State) (e : Event) → kind c e ≡ group g → Good c s → Good c u → Agree c g s u → Agree c g (free c s e).1 (free c u e).1
-  writes g s u e p a b h = rw (freed_local g s u e p h) (act-both g s u e (freed c u e) p a b h)
+  writes g s u e p a b h = rw (freed_local g s u e p h) (act_both g s u e (freed c u e) p a b h)
 
   free_keeps : (s : State) (e : Event) → Good c s → Good c (free c s e).1
   free_keeps s e h = act_good s e (freed c s e) h

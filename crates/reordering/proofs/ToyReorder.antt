@@ -10,9 +10,9 @@ use borrow.Author.Tests.{ne_eqb}
 use Rattle.reordering.specs.Order.{Reordered}
 use Rattle.reordering.specs.Place.{Matching}
 use Rattle.reordering.specs.Run.{after, log, entry, Never}
-use Rattle.reordering.proofs.Each.{each-so}
+use Rattle.reordering.proofs.Each.{each_so}
 use Rattle.reordering.proofs.Reorder.{reorder}
-use Rattle.reordering.proofs.Answer.{reorder-places}
+use Rattle.reordering.proofs.Answer.{reorder_places}
 use Rattle.reordering.proofs.Toy.{Config, State, Event, Answer, done, ran, refusal, Unrefused, for_processors_lem, kind, step, fresh}
 use Rattle.reordering.proofs.ToyLaws.{laws, fresh_good}
 use Rattle.reordering.proofs.ToySeated.{never_one}
@@ -32,20 +32,20 @@ module _ (c : Config) where
 
   -- 1 never comes, so that it is enough that 8 does not
   unrefused : (xs : List Event) → Unrefused 8 (logged xs) → Never for_processors_lem (logged xs)
-  unrefused xs h = each-so (logged xs) (λ e. neither) (never_one c xs) h
+  unrefused xs h = each_so (logged xs) (λ e. neither) (never_one c xs) h
 
-  pub toy-reorder
+  pub toy_reorder
       : (xs ys : List Event)
       → Reordered (kind c) xs ys
       → Unrefused 8 (logged xs)
       → Unrefused 8 (logged ys)
       → Reordered (entry (kind c)) (logged xs) (logged ys) × (last xs ≡ last ys)
-  toy-reorder xs ys r m n = reorder (laws c) (fresh c) (fresh_good c) xs ys r (unrefused xs m) (unrefused ys n)
+  toy_reorder xs ys r m n = reorder (laws c) (fresh c) (fresh_good c) xs ys r (unrefused xs m) (unrefused ys n)
 
   -- the same by places: what stands at place i of the one log stands at place `m.to i` of the other
-  pub toy-places
+  pub toy_places
       : (xs ys : List Event) (m : Matching (kind c) xs ys)
       → Unrefused 8 (logged xs)
       → Unrefused 8 (logged ys)
       → ((i : ℕ) (r : Event × Answer) → at (logged xs) i ≡ some r → at (logged ys) (m.to i) ≡ some r) × (last xs ≡ last ys)
-  toy-places xs ys m h k = reorder-places (laws c) (fresh c) (fresh_good c) xs ys m (unrefused xs h) (unrefused ys k)
+  toy_places xs ys m h k = reorder_places (laws c) (fresh c) (fresh_good c) xs ys m (unrefused xs h) (unrefused ys k)

@@ -12,7 +12,7 @@ use lib.Seq.{get_or-set_other, get_or-set_same, set_out}
 use borrow.Author.Tests.{leb-false, le-ltb, ltb-true, ltb-false}
 use Rattle.laws.specs.Tests.{bit, first_of, without}
 use Rattle.laws.proofs.Cases.{split, first_no, first_none, without_never}
-use Rattle.laws.proofs.Count.{count_ext, count_zero, count-but-one}
+use Rattle.laws.proofs.Count.{count_ext, count_zero, count_but_one}
 use Rattle.laws.proofs.Lists.{replicate_at}
 use Rattle.laws.proofs.Set.{set_at_lem, set_past}
 use Rattle.reordering.specs.Run.{log, Each}
@@ -46,7 +46,7 @@ module _ (c : Config) where
       (λ e.
       let l : t < n = ltb-true t n e in
       let p : bit (runs (put s t b) t) ≡ bit b = ap (λ (x : Task). bit x.running) (get_or-set_same s.tasks t _ idle (omega arith)) in
-      omega (arith, count-but-one n t (runs s) (runs (put s t b)) l (λ j m x. sym (ap (λ (x : Task). x.running) (get_or-set_other s.tasks t j _ idle x)))))
+      omega (arith, count_but_one n t (runs s) (runs (put s t b)) l (λ j m x. sym (ap (λ (x : Task). x.running) (get_or-set_other s.tasks t j _ idle x)))))
       (λ e. rw (set_out s.tasks t _ (omega (arith, ltb-false t n e))) (omega arith))
 
   -- an accepted dispatch found a processor

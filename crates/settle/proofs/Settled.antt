@@ -34,7 +34,7 @@ unfolding running_at
 running_past st s l = rw (here_past st s l)
 
 -- one entry more is right, and the others were
-servers-one
+servers_one
     : (f g : ℕ → ℕ) (t : ℕ) (v : ServerNo) (xs : List ServerNo)
     → t < places
     → ((i : ℕ) → i < places → (i ≡ t → ⊥) → f i ≡ g i)
@@ -42,7 +42,7 @@ servers-one
     → v ≡ record { 0 = g t }
     → set xs t v ≡ servers_of g
 unfolding servers_of server_of
-servers-one f g t v xs l same e w =
+servers_one f g t v xs l same e w =
     ext_get_or none (set xs t v) (servers_of g) (length-set xs t v ∙ sixteen ∙ sym (length_set_to places (server_of g) blank))
     (λ i m. at i (omega (arith, length-set xs t v, sixteen)))
   where
@@ -91,7 +91,7 @@ module _ (on : List TaskNo) (budgets : List ℕ) where
   unfolding servers_of server_of best_by best_to fold_to
   bests_none = sym (set_kept _ places _ (record { 0 = nobody }) (λ i l. sym (replicate_at places i (record { 0 = nobody }))))
 
-  pub bests-more
+  pub bests_more
       : (xs : List ServerNo) (s t : ℕ) (v : ServerNo)
       → s < places
       → t ≡ (get_or on s (record { 0 = 0 })).0
@@ -99,19 +99,19 @@ module _ (on : List TaskNo) (budgets : List ℕ) where
       → v ≡ record { 0 = better_by budgets s (get_or xs t (record { 0 = 0 })).0 }
       → xs ≡ servers_of (best_by on budgets s)
       → set xs t v ≡ servers_of (best_by on budgets (s + 1))
-  bests-more xs s t v k q l w e =
+  bests_more xs s t v k q l w e =
       let so_far : (get_or xs t (record { 0 = 0 })).0 ≡ best_by on budgets s t = ap (λ (ys : List ServerNo). (get_or ys t (record { 0 = 0 })).0) e ∙ servers_at _ t l in
-      servers-one _ _ t v xs l
+      servers_one _ _ t v xs l
       (λ i m n. best_no on budgets s i (serves_no on i s (λ p. n (p ∙ sym q))))
       e
       (w ∙ (λ j. record { 0 = (ap (better_by budgets s) so_far ∙ best_yes on budgets s t (serves_yes on t s k q)) j }))
 
-  pub bests-skip
+  pub bests_skip
       : (xs : List ServerNo) (s : ℕ)
       → places ≤ (get_or on s (record { 0 = 0 })).0
       → xs ≡ servers_of (best_by on budgets s)
       → xs ≡ servers_of (best_by on budgets (s + 1))
-  bests-skip xs s l e = e ∙ servers_same _ _ (λ i m. best_no on budgets s i (serves_no on i s (λ p. omega arith)))
+  bests_skip xs s l e = e ∙ servers_same _ _ (λ i m. best_no on budgets s i (serves_no on i s (λ p. omega arith)))
 
   pub bests_done : (xs : List ServerNo) (s : ℕ) → s ≤ places → places ≤ s → xs ≡ servers_of (best_by on budgets s) → xs ≡ bests_by on budgets
   unfolding bests_by
@@ -128,7 +128,7 @@ module _ (on : List TaskNo) (best : List ServerNo) (acting : ℕ) (st : State) w
   unfolding settled_to
   ahead t after so_far = ap (λ a. task_at a t) so_far ∙ set_past t t _ st.task no_task (omega arith)
 
-  pub settled-more
+  pub settled_more
       : (t : ℕ) (before s : ServerNo) (runs : Runs) (entry : Task) (after : State)
       → in_use st.tasks t ≡ true
       → before ≡ record { 0 = executor_number (task_at after t).runs }
@@ -138,18 +138,18 @@ module _ (on : List TaskNo) (best : List ServerNo) (acting : ℕ) (st : State) w
       → after ≡ settled_to on best acting st t
       → with_tasks (set after.task t entry) after ≡ settled_to on best acting st (t + 1)
   unfolding settled_to settled_task_by here executor_of
-  settled-more t before s runs entry after used p e x w so_far =
+  settled_more t before s runs entry after used p e x w so_far =
       let was = ap (λ b. b.0) p ∙ ap (λ k. executor_number k.runs) (ahead t after so_far) in
       ap (λ a. with_tasks (set a.task t entry) a) so_far
       ∙ ap (λ ts. with_tasks ts st) (set_more _ t _ _ entry (w ∙ ap (with_runs runs) (ahead t after so_far) ∙ rw (used, x, e, was)) refl)
 
-  pub settled-skip
+  pub settled_skip
       : (t : ℕ) (after : State)
       → in_use st.tasks t ≡ false
       → after ≡ settled_to on best acting st t
       → after ≡ settled_to on best acting st (t + 1)
   unfolding settled_to settled_task_by here
-  settled-skip t after past so_far = so_far ∙ ap (λ ts. with_tasks ts st) (set_skip _ t st.task _ no_task (rw past) refl)
+  settled_skip t after past so_far = so_far ∙ ap (λ ts. with_tasks ts st) (set_skip _ t st.task _ no_task (rw past) refl)
 
 -- rule H on the arrays of a state is rule H
 module _ (st : State) where
@@ -195,23 +195,23 @@ module _ (st : State) where
       (λ s k h. budget_is t s k h l)
       (omega arith)
 
-  executor-is
+  executor_is
       : (before acting t : ℕ)
       → t < places
       → executor_in on before acting (get_or (bests_by on budgets) t (record { 0 = 0 })).0 t ≡ executor_by st before acting t
   unfolding executor_in executor_by
-  executor-is before acting t l = rw (serves_is t before l, serves_is t acting l, best_is_chosen t l)
+  executor_is before acting t l = rw (serves_is t before l, serves_is t acting l, best_is_chosen t l)
 
   task_is : (acting t : ℕ) → t < places → settled_task_by on (bests_by on budgets) acting st t ≡ settled_task st acting st t
   unfolding settled_task_by settled_task
-  task_is acting t l = split (here st t) (λ y. rw (y, executor-is (executor_of st t) acting t l)) (λ n. rw n)
+  task_is acting t l = split (here st t) (λ y. rw (y, executor_is (executor_of st t) acting t l)) (λ n. rw n)
 
   settled_by_lem : (acting : ℕ) → settled_by (ends_of st) acting st ≡ settled st acting st
   unfolding settled_by settled_to settled
   settled_by_lem acting = ap (λ ts. with_tasks ts st) (set_same _ _ places st.task (task_is acting))
 
 -- the loop's end
-pub settled-done
+pub settled_done
     : (ends on : List TaskNo) (budgets : List ℕ) (best : List ServerNo) (acting : ℕ) (st after : State) (t : ℕ)
     → ends ≡ ends_of st
     → on ≡ on_by st.server st.tasks ends
@@ -222,7 +222,7 @@ pub settled-done
     → after ≡ settled_to on best acting st t
     → after ≡ settled st acting st
 unfolding settled_by
-settled-done ends on budgets best acting st after t n o b m l g so_far =
+settled_done ends on budgets best acting st after t n o b m l g so_far =
     turns_done (settled_to on best acting st) t places after l g so_far
     ∙ ap₂ (λ x y. settled_to x y acting st places) o (m ∙ ap₂ bests_by o b)
     ∙ ap (λ x. settled_by x acting st) n

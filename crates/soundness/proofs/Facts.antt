@@ -12,7 +12,7 @@ use Rattle.laws.specs.Tests.{bit, ◌implies◌, ◌iff◌}
 use Rattle.laws.specs.Loops.{count_to, sum_to}
 use Rattle.laws.proofs.Cases.{split}
 use Rattle.laws.proofs.Count.{count_ext, count_sum}
-use Rattle.laws.proofs.Reflect.{Reflects, reflects_self, reflects_le, reflects_lt, reflects_eq, reflects_change, reflects_not, reflects_and, reflects_or, reflects_implies, reflects_iff, reflects-all}
+use Rattle.laws.proofs.Reflect.{Reflects, reflects_self, reflects_le, reflects_lt, reflects_eq, reflects_change, reflects_not, reflects_and, reflects_or, reflects_implies, reflects_iff, reflects_all}
 use Rattle.model.specs.declared.Phase.{Phase}
 use Rattle.model.specs.declared.Phase.TheVariants.{Idle, Active, Running, Recharging}
 use Rattle.model.specs.declared.Mode.{Mode}
@@ -42,11 +42,11 @@ unfolding members_fit member_at other_at
 members_fact xs count set owners holder =
     reflects_and
     (reflects_le count places)
-    (reflects-all count _ _
+    (reflects_all count _ _
     (λ j l.
     reflects_and
     (reflects_and (reflects_eq _ _) (reflects_self _))
-    (reflects-all j _ _ (λ k m. reflects_not (reflects_eq _ _)))))
+    (reflects_all j _ _ (λ k m. reflects_not (reflects_eq _ _)))))
 
 -- an array of numbers, counted
 pub used_count : (f : ℕ → ℕ) → used_in (array_of f) ≡ count_to places (λ i. ltb (f i) places)
@@ -69,12 +69,12 @@ seats_count st = used_count (runs_for st) ∙ count_ext places _ (running_at st)
         (λ n. rw n)
 
 -- the tests that go by cases
-wait-cases
+wait_cases
     : (resources declared : ℕ) (m : Mode)
     → wait_passes resources declared m ≡ (waiting m implies (in_use resources (awaited m) && in_set declared (awaited m)))
-wait-cases resources declared Suspended = refl
-wait-cases resources declared Ready = refl
-wait-cases resources declared (Waiting r) = refl
+wait_cases resources declared Suspended = refl
+wait_cases resources declared Ready = refl
+wait_cases resources declared (Waiting r) = refl
 
 pub wait_fact
     : (resources declared : ℕ) (m : Mode)
@@ -82,15 +82,15 @@ pub wait_fact
     (wait_passes resources declared m)
     (waiting m ≡ true → (in_use resources (awaited m) ≡ true) × (in_set declared (awaited m) ≡ true))
 wait_fact resources declared m =
-    rw (wait-cases resources declared m) (reflects_implies (reflects_self _) (reflects_and (reflects_self _) (reflects_self _)))
+    rw (wait_cases resources declared m) (reflects_implies (reflects_self _) (reflects_and (reflects_self _) (reflects_self _)))
 
-serves-cases
+serves_cases
     : (p : Phase) (m : Mode) (x : Runs)
     → serves_passes p m x ≡ ((running p implies placed x) && (recharging p || (idle p iff suspended m)))
-serves-cases Idle m x = refl
-serves-cases Active m x = refl
-serves-cases Running m x = refl
-serves-cases Recharging m x = refl
+serves_cases Idle m x = refl
+serves_cases Active m x = refl
+serves_cases Running m x = refl
+serves_cases Recharging m x = refl
 
 pub serves_fact
     : (p : Phase) (m : Mode) (x : Runs)
@@ -99,7 +99,7 @@ pub serves_fact
     ((running p ≡ true → placed x ≡ true) ×
     ((recharging p ≡ true) ⊎ ((idle p ≡ true → suspended m ≡ true) × (suspended m ≡ true → idle p ≡ true))))
 serves_fact p m x =
-    rw (serves-cases p m x)
+    rw (serves_cases p m x)
     (reflects_and
     (reflects_implies (reflects_self _) (reflects_self _))
     (reflects_or (reflects_self _) (reflects_iff (reflects_self _) (reflects_self _))))
@@ -108,9 +108,9 @@ executes_cases : (xs : List ℕ) (t : ℕ) (x : Runs) → executes_passes xs t x
 executes_cases xs t Nowhere = refl
 executes_cases xs t (In s) = refl
 
-pub executes-fact
+pub executes_fact
     : (xs : List ℕ) (t : ℕ) (x : Runs) → Reflects (executes_passes xs t x) (placed x ≡ true → at_or_nobody xs (executor_number x) ≡ t)
-executes-fact xs t x = rw (executes_cases xs t x) (reflects_implies (reflects_self _) (reflects_eq _ _))
+executes_fact xs t x = rw (executes_cases xs t x) (reflects_implies (reflects_self _) (reflects_eq _ _))
 
 pub owner_fact
     : (inForce waiting : ℕ) (o : Owner)

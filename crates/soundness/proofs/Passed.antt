@@ -9,12 +9,12 @@ use Rattle.laws.proofs.Reflect.{Reflects, reflects_self, reflects_le, reflects_l
 use Rattle.model.specs.declared.State.{State}
 use Rattle.model.specs.State.{places, server_at, task_at, resource_at, here, present, declares, running, waiting, awaited, owned, placed, executor_number, owner_of, served}
 use Rattle.model.proofs.Chain.{Open}
-use Rattle.model.proofs.Sound.{Each, EachResource, each_fact, each-resource-fact, Reservation, Declaration, Deadline, Budget, Empty, Idles, Seated, quota_fact, Sizes, sizes_fact}
+use Rattle.model.proofs.Sound.{Each, EachResource, each_fact, each_resource_fact, Reservation, Declaration, Deadline, Budget, Empty, Idles, Seated, quota_fact, Sizes, sizes_fact}
 use Rattle.chain.specs.Arrays.{array_of, wanted, wanted_of, runs_for}
 use Rattle.chain.specs.Computed.{numbers_of, at_or_nobody}
 use Rattle.soundness.specs.Computed.{used_in, task_passes, task_passes_at, depth_at, tasks_pass, every_bit, resource_passes, resource_passes_at, length_at, resources_pass, server_passes, server_passes_at, servers_pass, passes}
 use Rattle.soundness.proofs.Agree.{Totals}
-use Rattle.soundness.proofs.Facts.{Members, members_fact, used_sum, seats_count, wait_fact, serves_fact, executes-fact, owner_fact}
+use Rattle.soundness.proofs.Facts.{Members, members_fact, used_sum, seats_count, wait_fact, serves_fact, executes_fact, owner_fact}
 
 -- the facts of a task, a resource and a server that pass
 module _ (st : State) (i : ℕ) where
@@ -88,7 +88,7 @@ module _ (st : State) (i : ℕ) where
       (reflects_le _ _))
       (reflects_le _ _))
       (serves_fact (server_at st i).phase (task_at st (served st i)).mode (task_at st (served st i)).runs))
-      (executes-fact (array_of (runs_for st)) i (task_at st i).runs))
+      (executes_fact (array_of (runs_for st)) i (task_at st i).runs))
       (λ h. record {
         reservation = h.0.0.0.0.0.0.0;
         deadline = h.0.0.0.0.0.0.1;
@@ -147,7 +147,7 @@ passed_facts st =
     (reflects_and
     (sizes_fact st)
     (reflects_and (each_fact st _ _ (task_facts st)) (depths_fact st)))
-    (reflects_and (each-resource-fact st _ _ (resource_facts st)) (lengths_fact st)))
+    (reflects_and (each_resource_fact st _ _ (resource_facts st)) (lengths_fact st)))
     (reflects_and (seats_fact st) (each_fact st _ _ (server_facts st))))
     (λ h. record {
       sizes = h.0.0.0;

@@ -70,7 +70,7 @@ module _ (xs : List ℕ) (count set : ℕ) (owners : List ℕ) (holder : ℕ) wh
       (λ y. rw y (all_fails (member_at xs set owners holder) count j l (sym e)))
       (λ n. rw n)
 
-  pub members-done
+  pub members_done
       : (j : ℕ)
       → count ≤ places
       → j ≤ count
@@ -78,7 +78,7 @@ module _ (xs : List ℕ) (count set : ℕ) (owners : List ℕ) (holder : ℕ) wh
       → true ≡ all_to j (member_at xs set owners holder)
       → true ≡ members_fit xs count set owners holder
   unfolding members_fit
-  members-done j m l g h = rw (le-leb count places m) (all_done (member_at xs set owners holder) j count l g h)
+  members_done j m l g h = rw (le-leb count places m) (all_done (member_at xs set owners holder) j count l g h)
 
 -- a loop over the places in use that tests each and adds up its size: what it has after i turns
 module _ (used passed : ℕ → Bool) (size : ℕ → ℕ) where
@@ -125,13 +125,13 @@ module _ {used passed : ℕ → Bool} {size : ℕ → ℕ} {i total : ℕ} where
     sum = e ∙ sym (add-zero total) ∙ sum_more (counted used passed size) i total 0 (sym (if_no _ _ _ u)) h.sum;
   }
 
-  pub so-far-done
+  pub so_far_done
       : (n m : ℕ)
       → places ≤ i
       → SoFar used passed size i total
       → n ≡ m
       → eqb total n ≡ (all_to places (guarded used passed size) && eqb (sum_to places (counted used passed size)) m)
-  so-far-done n m g h e =
+  so_far_done n m g h e =
       rw (
         ← (all_done (guarded used passed size) i places h.inside g h.each),
         ← (sum_done (counted used passed size) i places total h.inside g h.sum),
@@ -139,18 +139,18 @@ module _ {used passed : ℕ → Bool} {size : ℕ → ℕ} {i total : ℕ} where
       )
 
 -- what the code reads of a task and of a resource is the state's, and one that passes has a stack or a queue that fits
-pub task-read
+pub task_read
     : (st : State) (owners : List ℕ) (t : ℕ) (r : Bool)
     → owners ≡ array_of (owner_of st)
     → r ≡ task_passes st.resources st.clock owners t (task_at st t)
     → r ≡ task_passes_at st t
 unfolding task_passes_at
-task-read st owners t r o e = e ∙ ap (λ xs. task_passes st.resources st.clock xs t (task_at st t)) o
+task_read st owners t r o e = e ∙ ap (λ xs. task_passes st.resources st.clock xs t (task_at st t)) o
 
 pub task_depth : (st : State) (t : ℕ) → task_passes_at st t ≡ true → depth st t ≤ places
 task_depth st t e = ((task_facts st t).holds e).stack.0
 
-pub resource-read
+pub resource_read
     : (st : State) (owners wants : List ℕ) (r : ℕ) (x : Bool)
     → r < places
     → owners ≡ array_of (owner_of st)
@@ -158,7 +158,7 @@ pub resource-read
     → x ≡ resource_passes (get_or owners r 0) wants r (resource_at st r)
     → x ≡ resource_passes_at st r
 unfolding resource_passes_at
-resource-read st owners wants r x l o w e =
+resource_read st owners wants r x l o w e =
     e ∙ ap₂ (λ n xs. resource_passes n xs r (resource_at st r)) (ap (λ xs. get_or xs r 0) o ∙ array_at (owner_of st) r l) w
 
 pub resource_waiting : (st : State) (r : ℕ) → resource_passes_at st r ≡ true → waiters st r ≤ places
@@ -207,14 +207,14 @@ module _
     unfolding server_passes_at
     server_fails e = rw (sym first ∙ e)
 
-    pub server-both
+    pub server_both
         : (runsBy : List ℕ) (y : Bool)
         → runsBy ≡ array_of (runs_for st)
         → y ≡ executes_passes runsBy i (task_at st i).runs
         → x ≡ true
         → y ≡ server_passes_at st i
     unfolding server_passes_at
-    server-both runsBy y re ye e = rw (sym first ∙ e) (ye ∙ ap (λ xs. executes_passes xs i (task_at st i).runs) re)
+    server_both runsBy y re ye e = rw (sym first ∙ e) (ye ∙ ap (λ xs. executes_passes xs i (task_at st i).runs) re)
 
 -- as many running as there are processors
 module _ (st : State) (runsBy : List ℕ) (n : ℕ) (re : runsBy ≡ array_of (runs_for st)) (ne : n ≡ used_in runsBy) where

@@ -46,13 +46,13 @@ pub step_sound : (st : State) (e : Event) (o : Outcome) → sound st ≡ true �
 unfolding stepped
 step_sound st e o h q = met st e o (q ∙ rw h)
 
-pub attempt-refused
+pub attempt_refused
     : (st : State) (e : Event) (a : Answer) (n : ℕ)
     → first_of (tests st e) ≡ some n
     → a ≡ refusing (task_at st (number_of e)).mode n
     → record { answer = a; state = st } ≡ attempted st e
 unfolding attempted
-attempt-refused st e a n h q = (λ i. record { answer = q i; state = st }) ∙ ap (λ x. outcome x st e) (sym h)
+attempt_refused st e a n h q = (λ i. record { answer = q i; state = st }) ∙ ap (λ x. outcome x st e) (sym h)
 
 pub attempt_taken : (st : State) (e : Event) (o : Outcome) → Clear st e → o ≡ outcome none st e → o ≡ attempted st e
 unfolding attempted

@@ -11,7 +11,7 @@ use Rattle.model.specs.State.{places, no_server, no_task, no_resource, task_at, 
 use Rattle.model.specs.RuleH.{budget_at, chosen}
 use Rattle.model.specs.Shape.{Shaped}
 use Rattle.model.proofs.Chain.{linked_here, served_keeps, same_among}
-use Rattle.model.proofs.Chosen.{chosen-alone}
+use Rattle.model.proofs.Chosen.{chosen_alone}
 use Rattle.model.proofs.Sound.{Loose}
 
 -- a label for each task (and server), and one for each resource
@@ -143,10 +143,10 @@ module _ (l : Labels) where
 
     module _ (home : Homed l s) (other : Homed l u) where
       -- a test on servers, with the test whether they serve a task of the group: on others' servers both fail
-      pub serves-same
+      pub serves_same
           : (p q : ℕ → Bool) (t : ℕ) → l.of_task t ≡ g → ((x : ℕ) → l.of_task x ≡ g → p x ≡ q x) →
           (x : ℕ) → (p x && eqb (served s x) t) ≡ (q x && eqb (served u x) t)
-      serves-same p q t e same x =
+      serves_same p q t e same x =
           split
           (eqb (l.of_task x) g)
           (λ y. let k = eqb-true (l.of_task x) g y in rw (same x k, served_same home x k) refl)
@@ -156,12 +156,12 @@ module _ (l : Labels) where
 
       pub for_same : (t : ℕ) → l.of_task t ≡ g → (x : ℕ) → running_for s t x ≡ running_for u t x
       unfolding running_for
-      for_same t e = serves-same (running_at s) (running_at u) t e running_same
+      for_same t e = serves_same (running_at s) (running_at u) t e running_same
 
       pub chosen_same : (t : ℕ) → l.of_task t ≡ g → chosen s t ≡ chosen u t
       unfolding budget_at
       chosen_same t e =
-          chosen-alone s u t t (λ x k. for_same t e x) (λ x k h. ap (λ v. v.budget) (a.server_same.entry x (for_home s home t x h ∙ e)))
+          chosen_alone s u t t (λ x k. for_same t e x) (λ x k h. ap (λ v. v.budget) (a.server_same.entry x (for_home s home t x h ∙ e)))
 
 -- the labels fit what is declared: a resource has the label of each task that declares it
 abbrev pub Fits : Labels → State → Type 0

@@ -4,7 +4,7 @@
 -- resources, and what tasks hold and want; states that look the same to them are `Alike`, and `Locks` and every chain end are the same in them. The six
 -- events of tasks and servers and rule H make states that are alike. Assumes nothing.
 use Rattle.theory.proofs.Kit.{◌≡◌, refl, sym, ap, ◌∙◌, true, Bool, ◌⊎◌, ⊎_elim, ℕ, ◌+◌, ◌<◌, ◌≤◌, arith, get_or, length, eq-eqb}
-use Rattle.laws.proofs.Standing.{same-standing}
+use Rattle.laws.proofs.Standing.{same_standing}
 use Rattle.laws.proofs.Cases.{and_right, and_both}
 use Rattle.theory.proofs.Declared.{TaskNo, Task, State, Server}
 use Rattle.model.specs.State.{no_resource, task_at, resource_at, in_set, here, present, declares, waiting, awaited, owned, owner_no, owner_of, next, served, server_at, idle, recharging, suspended, running_at, running_for, executor_of, executing}
@@ -14,7 +14,7 @@ use Rattle.model.specs.Shape.{Shaped}
 use Rattle.model.proofs.Chain.{same_served, Open, here_below, served_below}
 use Rattle.model.proofs.Sound.{Each, EachResource, Declaration, Unqueued, Executor, Serves, Loose}
 use Rattle.model.proofs.Room.{Stacks, Queues, loose_stacks, loose_queues}
-use Rattle.model.proofs.RuleH.{settled_here, settled_served, settled-serves, settled-some, settled-task, settled-field}
+use Rattle.model.proofs.RuleH.{settled_here, settled_served, settled_serves, settled_some, settled_task_lem, settled_field}
 use Rattle.theory.proofs.Frames.{heads_here, heads_present}
 
 pub record Locks (st : State) : Type 0 where
@@ -71,13 +71,13 @@ module _ (a b : State) (same : Alike a b) where
   alike_locks l = record {
     declaration = λ i u. rw (same.resources, (same.task i).may) (l.declaration i (sym (alike_here i) ∙ u));
     stacks =
-        same-standing
+        same_standing
         (λ r. sym (alike_present r)) (λ t. sym (alike_here t)) (λ t. sym (same.task t).deep) (λ t j. ap (λ h. get_or h j 0) (sym (same.task t).has))
         (λ r. ap (λ x. owned x.owner) (sym (alike_resource r))) (λ r. ap (λ x. owner_no x.owner) (sym (alike_resource r)))
         (λ t r. sym (alike_declares t r))
         l.stacks;
     queues =
-        same-standing
+        same_standing
         (λ t. sym (alike_here t)) (λ r. sym (alike_present r)) (λ r. ap (λ x. x.waiting) (sym (alike_resource r)))
         (λ r j. ap (λ x. (get_or {A = TaskNo} x.queue j (record { 0 = 0 })).0) (sym (alike_resource r)))
         (λ t. sym (same.task t).waits) (λ t. sym (same.task t).wants) (λ r t. sym (alike_declares t r))
@@ -96,11 +96,11 @@ pub record Fits (clock : ℕ) (asleep : Bool) (x : Server) : Type 0 where
   pub spent : x.own + x.lent + x.spin ≤ clock
 
 -- the same server before a task that sleeps otherwise
-pub fits-anew
+pub fits_anew
     : (clock : ℕ) (a b : Bool) (x : Server) → Fits clock a x
     → (recharging x.phase ≡ true) ⊎ ((idle x.phase ≡ true → b ≡ true) × (b ≡ true → idle x.phase ≡ true))
     → Fits clock b x
-fits-anew clock a b x f i = record { reserved = f.reserved; due = f.due; within = f.within; empty = f.empty; idles = i; spent = f.spent }
+fits_anew clock a b x f i = record { reserved = f.reserved; due = f.due; within = f.within; empty = f.empty; idles = i; spent = f.spent }
 
 abbrev pub Counts : ℕ → ℕ → ℕ → Type 0
 Counts processors tasks resources = (1 ≤ processors) × (processors ≤ 8) × (1 ≤ tasks) × (tasks ≤ 16) × (resources ≤ 16)
@@ -176,12 +176,12 @@ module _ (old st : State) (acting : ℕ) where
     tasks = refl;
     resources = refl;
     resource = refl;
-    task = settled-task Same same_self (λ x k. record { wants = refl; waits = refl; may = refl; deep = refl; has = refl }) old st acting;
+    task = settled_task_lem Same same_self (λ x k. record { wants = refl; waits = refl; may = refl; deep = refl; has = refl }) old st acting;
   }
 
   settled_asleep : (s : ℕ) → asleep after s ≡ asleep st s
   settled_asleep s =
-      settled-field (λ k. suspended k.mode) (λ x k. refl) old st acting (served after s)
+      settled_field (λ k. suspended k.mode) (λ x k. refl) old st acting (served after s)
       ∙ ap (λ t. suspended (task_at st t).mode) (settled_served old st acting s)
 
   settled_calm : Calm st → Calm after
@@ -191,7 +191,7 @@ module _ (old st : State) (acting : ℕ) where
     time = c.time;
     servers = λ i u. rw (settled_asleep i) (c.servers i (sym (settled_here old st acting i) ∙ u));
     locks = alike_locks after st settled_alike c.locks;
-    executed = λ i u. rw (settled-field (λ k. k.executed) (λ x k. refl) old st acting i) (c.executed i (sym (settled_here old st acting i) ∙ u));
+    executed = λ i u. rw (settled_field (λ k. k.executed) (λ x k. refl) old st acting i) (c.executed i (sym (settled_here old st acting i) ∙ u));
   }
 
   -- rule H makes a calm state loose
@@ -200,8 +200,8 @@ module _ (old st : State) (acting : ℕ) where
   settled_loose s c =
       calm_loose after (settled_calm c)
       (λ t u p.
-      settled-serves old st acting t (sym (settled_here old st acting t) ∙ u) (omega (arith, here_below after t u, s.tasks)) (and_both (here after t) _ u p))
+      settled_serves old st acting t (sym (settled_here old st acting t) ∙ u) (omega (arith, here_below after t u, s.tasks)) (and_both (here after t) _ u p))
       (λ i u r.
       let t = served after i in
       let k : t < length st.task = omega (arith, served_below after i (here_below after i u), s.tasks) in
-      and_right (here after t) _ (settled-some old st acting t i k (and_both (running_at after i) _ r (eq-eqb t t refl))))
+      and_right (here after t) _ (settled_some old st acting t i k (and_both (running_at after i) _ r (eq-eqb t t refl))))

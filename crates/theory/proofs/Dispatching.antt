@@ -12,7 +12,7 @@ use Rattle.model.proofs.Variants.{active_is}
 use Rattle.theory.proofs.Executing.{runs_for_lem, Way, served_executes_lem}
 use Rattle.theory.proofs.Steps.{properly, after_here, ends_stay, by_rule_h}
 use Rattle.theory.proofs.Readings.{for_here, running_for_lem, runs_at, spins_by, executes_by, off_for, other_for}
-use Rattle.theory.proofs.Storing.{stored_server, stored_rest, stored_for, stored-executor}
+use Rattle.theory.proofs.Storing.{stored_server, stored_rest, stored_for, stored_executor}
 
 module _ (st : State) (s : ℕ) (w : Way st (Dispatch (record { 0 = s }))) where
   abbrev e : Event
@@ -51,7 +51,7 @@ module _ (st : State) (s : ℕ) (w : Way st (Dispatch (record { 0 = s }))) where
   others : ExecutorsStay st after (Only t)
   unfolding phased
   others u v n =
-      stored-executor st e w s x w.ground.0 refl tt u v
+      stored_executor st e w s x w.ground.0 refl tt u v
       (other_for after u s (λ q. n (sym q ∙ end)) ∙ sym (was_off u))
 
   module _ (y : executing st t ≡ true) where

@@ -13,7 +13,7 @@ use Rattle.theory.specs.Rules.{Proper, ExecutorsStay, Nothing, Rest, Elapsed}
 use Rattle.theory.proofs.Executing.{runs_for_lem, Way, served_executes_lem}
 use Rattle.theory.proofs.Serving.{each_at}
 use Rattle.theory.proofs.Accounts.{elapsed_adds}
-use Rattle.theory.proofs.Steps.{properly, nobody_serves, after_server, task_is, rest-by, ends_stay, same_for, executor_chosen, executor-stays}
+use Rattle.theory.proofs.Steps.{properly, nobody_serves, after_server, task_is, rest_by, ends_stay, same_for, executor_chosen, executor_stays}
 use Rattle.theory.proofs.Readings.{for_here, running_here, off_for}
 
 module _ (st : State) (n : ℕ) (w : Way st (Elapse n)) where
@@ -51,7 +51,7 @@ module _ (st : State) (n : ℕ) (w : Way st (Elapse n)) where
   rest : Rest st after (st.clock + n) (λ s. running_at st s ≡ true) (λ t. executing st t ≡ true) Nothing
   unfolding ticked_task elapsed each_server
   rest =
-      rest-by st e w (st.clock + n) (λ s. running_at st s ≡ true) (λ t. executing st t ≡ true) Nothing refl
+      rest_by st e w (st.clock + n) (λ s. running_at st s ≡ true) (λ t. executing st t ≡ true) Nothing refl
       (λ s u m. idler s u (unheld_fails _ m))
       (λ t u m. ticked t u ∙ rw (unheld_fails (executing st t) m))
       (λ r u m. refl)
@@ -64,7 +64,7 @@ module _ (st : State) (n : ℕ) (w : Way st (Elapse n)) where
 
   others : ExecutorsStay st after (λ t. runs_out st n (executor_of st t) ≡ true)
   others t u m =
-      executor-stays st e w t u
+      executor_stays st e w t u
       (λ y. let f = runs_for_lem st w.facts t y in still t _ (for_here st t _ f) (unheld_fails _ m) ∙ f)
       (λ s v h. served_executes_lem st w.facts t s u (sym (still t s v (unheld_fails _ (λ o. holds_fails h (off t s o)))) ∙ h))
 

@@ -13,7 +13,7 @@ use Rattle.model.proofs.Sound.{Loose}
 use Rattle.model.proofs.Room.{executing_waits, executing_ended, unawaited, loose_queues}
 use Rattle.model.proofs.Chain.{here_below}
 use Rattle.model.proofs.Chosen.{chosen_best}
-use Rattle.model.proofs.RuleH.{serving_below, settled_for, settled_keeps, settled-hands, settled-chooses, settled-serves, settled-some}
+use Rattle.model.proofs.RuleH.{serving_below, settled_for, settled_keeps, settled_hands, settled_chooses, settled_serves, settled_some}
 use Rattle.model.proofs.Grounds.{Grounds}
 use Rattle.model.proofs.Variants.{running_is, ready_is}
 use Rattle.model.specs.Sound.{sound}
@@ -98,7 +98,7 @@ module _ (st : State) (e : Event) (shaped : Shaped st) (t : ℕ) (used : here st
       (((server_at settles u).budget ≡ (server_at settles (executor_of settles t)).budget) × (executor_of settles t ≤ u))
   unfolding settled budget_at
   best f h u r =
-      let c : executor_of settles t ≡ chosen now t = settled-chooses st now (acting st e) t now_here inside (sym (still _) ∙ f) (sym (still _) ∙ h) in
+      let c : executor_of settles t ≡ chosen now t = settled_chooses st now (acting st e) t now_here inside (sym (still _) ∙ f) (sym (still _) ∙ h) in
       let l : u < places = serving_below settles t u r in
       let k : running_for now t u ≡ true = sym (still u) ∙ r in
       rw c
@@ -119,9 +119,9 @@ module _ (st : State) (e : Event) (shaped : Shaped st) (t : ℕ) (used : here st
   unfolding state_after
   rule_h = record {
     keeps = λ h. settled_keeps st now (acting st e) t now_here inside (sym (still _) ∙ h);
-    takes = λ f h. settled-hands st now (acting st e) t now_here inside (sym (still _) ∙ f) (sym (still _) ∙ h);
-    serves = settled-serves st now (acting st e) t now_here inside;
-    some = λ s h. settled-some st now (acting st e) t s inside h;
+    takes = λ f h. settled_hands st now (acting st e) t now_here inside (sym (still _) ∙ f) (sym (still _) ∙ h);
+    serves = settled_serves st now (acting st e) t now_here inside;
+    some = λ s h. settled_some st now (acting st e) t s inside h;
     best = best;
   }
 

@@ -9,8 +9,8 @@ use Rattle.model.specs.State.{nobody, server_at, task_at, resource_at, here, pre
 use Rattle.model.specs.RuleH.{budget_at, chosen, runs_in, with_runs}
 use Rattle.model.specs.Events.{with_mode, runs_out, ticked_task, pushed, popped}
 use Rattle.model.proofs.Chain.{same_served}
-use Rattle.model.proofs.Chosen.{chosen-alone}
-use Rattle.model.proofs.Waking.{refills-fact}
+use Rattle.model.proofs.Chosen.{chosen_alone}
+use Rattle.model.proofs.Waking.{refills_fact}
 use Rattle.theory.specs.Runs.{SameInUse}
 use Rattle.theory.specs.Rules.{TaskIs, Rest, ExecutorsStay, Only, Nothing, Dispatched, Preempted, Elapsed, Recharged, Slept, Woken, Granted, LockedBehind, Freed, Passed}
 use Rattle.theory.proofs.Readings.{for_here}
@@ -110,7 +110,7 @@ module _
 
     same_chosen : (t : ℕ) → chosen a t ≡ chosen b t
     unfolding budget_at
-    same_chosen t = chosen-alone a b t t (λ s l. same_for t s) (λ s l r. ap (λ (z : Server). z.budget) (same_server s (for_here a t s r)))
+    same_chosen t = chosen_alone a b t t (λ s l. same_for t s) (λ s l r. ap (λ (z : Server). z.budget) (same_server s (for_here a t s r)))
 
     same_followed : (t : ℕ) → Follows R t → executor_of a t ≡ executor_of b t
     same_followed t v =
@@ -241,7 +241,7 @@ module _ (st : State) where
       ⊎_elim
       (λ r. x.fills s (u, q) h r ∙ sym (y.fills s (u, q) h r))
       (λ n. x.leaves s (u, q) h n ∙ sym (y.leaves s (u, q) h n))
-      (reflects_dec (refills-fact st.clock (server_at st s)))))))
+      (reflects_dec (refills_fact st.clock (server_at st s)))))))
       (λ t u. at_only j t (λ q. (with_mode Ready (task_at st j), λ c z. rw q z.wakes))) (λ r u. inr (λ q. q)) (λ t u. inr (λ q. q)) a b
 
   pub granted_fixed : (a b : State) (t r : ℕ) → Granted st a t r → Granted st b t r → SameInUse a b

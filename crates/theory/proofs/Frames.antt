@@ -1,6 +1,6 @@
 -- Frames: what an event can make of one server, of one task and of one resource, whatever the state. Each entry after the event's change stays as it
 -- was, or it is one of a few rewritings of itself (`ServerMade`, `TaskMade`, `ResourceMade`) that say by which event and why: that is `server_after`,
--- `task_after`, `resource_after`. What no rewriting touches no event touches: fields (`servers_left`, `tasks-left`), the counts
+-- `task_after`, `resource_after`. What no rewriting touches no event touches: fields (`servers_left`, `tasks_left`), the counts
 -- (`heads_kept`), the clock but for an elapse, the arrays' sixteen places (`changed_shaped`). What no event reaches stays: entries past the counts
 -- (`past_kept` in Outcomes.antt), and the entries of other groups (Locality.antt). Assumes nothing.
 use Rattle.theory.proofs.Kit.{◌≡◌, refl, sym, ap, subst, ◌∙◌, true, false, ◌||◌, ◌&&◌, ◌⊎◌, inl, inr, ⊎_elim, ℕ, ◌<◌, ◌≤◌, arith, eqb, length, get_or, set, length-set, eqb-true, eqb-false}
@@ -13,7 +13,7 @@ use Rattle.model.specs.Shape.{Shaped}
 use Rattle.model.specs.RuleH.{with_runs, settled}
 use Rattle.model.specs.Events.{with_server, with_task, with_phase, refilled, with_mode, server_by, each_server, refills_at, woken_at, wakes, woken_server, woken, rests, rested_server, rested, slept, phased, spent_server, ticked_task, task_by, elapsed, recharged_phase, recharged, pushed, popped, with_owner, enqueued, dequeued, first_waiter, granted, joined, rested_end, locked, freed, passed, unlocked, changed, acting, with_servers}
 use Rattle.model.specs.Step.{state_after}
-use Rattle.model.proofs.RuleH.{settled-field}
+use Rattle.model.proofs.RuleH.{settled_field}
 use Rattle.model.proofs.Boxes.{dequeued_long}
 use Rattle.model.proofs.Grounds.{Grounds}
 use Rattle.model.proofs.Room.{first_here}
@@ -163,11 +163,11 @@ wakes_serves : (u : State) (t i : ℕ) → wakes u t i ≡ true → served u i �
 unfolding wakes
 wakes_serves u t i y = eqb-true _ t (and_right (here u i && idle (server_at u i).phase) _ y)
 
-rest-cases
+rest_cases
     : (u : State) (t i : ℕ)
     → (server_at (rested u t) i ≡ server_at u i) ⊎ ((server_at (rested u t) i ≡ with_phase Idle (server_at u i)) × (here u i ≡ true) × (served u i ≡ t))
 unfolding rested each_server server_by rested_server
-rest-cases u t i =
+rest_cases u t i =
     ⊎_elim
     (λ c.
     split
@@ -216,14 +216,14 @@ module _ (st : State) where
       (⊎_elim
       (λ c. inl c)
       (λ c. inr ((c.1, taken, c.2), in_phase Idle c.0 tt))
-      (rest-cases (joined st t.0 r) (served (joined st t.0 r) t.0) i)))
+      (rest_cases (joined st t.0 r) (served (joined st t.0 r) t.0) i)))
       (λ n. rw n (inl refl))
 
   pub server_after : (e : Event) (i : ℕ) → ServerAfter st e i (server_at (changed st e) i)
   unfolding woken slept phased elapsed recharged recharged_phase locked unlocked granted freed passed
   server_after (Wake t) i = each_after (Wake t) (woken_server st t.0) (woken_after t) i
   server_after (Suspend t) i =
-      ⊎_elim (λ c. inl c) (λ c. inr ((c.1, c.2), in_phase Idle c.0 tt)) (rest-cases st t.0 i)
+      ⊎_elim (λ c. inl c) (λ c. inr ((c.1, c.2), in_phase Idle c.0 tt)) (rest_cases st t.0 i)
   server_after (Dispatch s) i = put_after (Dispatch s) s.0 _ (inr (refl, in_phase Running refl refl)) i
   server_after (Preempt s) i = put_after (Preempt s) s.0 _ (inr (refl, in_phase Active refl (inr refl))) i
   server_after (Elapse n) i = each_after (Elapse n) (spent_server st n) (λ s h. inr (h, spends n refl refl)) i
@@ -242,10 +242,10 @@ module _ (st : State) where
   keep_after : (e : Event) (t : ℕ) (x : Task) → TaskAfter st e t x → (i : ℕ) → TaskAfter st e i (task_at (with_task t x st) i)
   keep_after e t x new i = ⊎_elim (λ c. rw (c.1, c.0) new) (λ c. inl c) (store_cases st.task t x no_task i)
 
-  passed-after
+  passed_after
       : (t : TaskNo) (r i : ℕ) → 0 < (resource_at st r).waiting → TaskAfter st (Unlock t r) i (task_at (passed st t.0 r (first_waiter (resource_at st r))) i)
   unfolding passed
-  passed-after t r i some =
+  passed_after t r i some =
       let h : ℕ = first_waiter (resource_at st r) in
       ⊎_elim
       (λ c. rw (c.1, c.0) (inr (inherits t r refl some refl refl)))
@@ -277,7 +277,7 @@ module _ (st : State) where
       split
       (eqb (resource_at st r).waiting 0)
       (λ y. rw y (keep_after (Unlock t r) t.0 _ (inr (gives t r refl refl refl)) i))
-      (λ n. rw n (passed-after t r i (omega (arith, eqb-false (resource_at st r).waiting 0 n))))
+      (λ n. rw n (passed_after t r i (omega (arith, eqb-false (resource_at st r).waiting 0 n))))
 
   -- resources
   own_after : (e : Event) (r : ℕ) (x : Resource) → ResourceAfter st e r x → (q : ℕ) → ResourceAfter st e q (get_or (set st.resource r x) q no_resource)
@@ -335,16 +335,16 @@ module _
       tasks_changed : f (task_at (changed st e) i) ≡ f (task_at st i)
       tasks_changed = ⊎_elim (ap f) task_left (task_after st e i)
 
-    pub tasks-left
+    pub tasks_left
         : ((x : Runs) (k : Task) → f (with_runs x k) ≡ f k) → (st : State) (e : Event)
         → ((n t : ℕ) → e ≡ Elapse n → f (ticked_task st n t) ≡ f (task_at st t)) → (i : ℕ) → f (task_at (state_after st e) i) ≡ f (task_at st i)
     unfolding state_after
-    tasks-left runs st e ticked i = settled-field f runs st (changed st e) (acting st e) i ∙ tasks_changed st e ticked i
+    tasks_left runs st e ticked i = settled_field f runs st (changed st e) (acting st e) i ∙ tasks_changed st e ticked i
 
 -- so no event changes what is declared
 pub declared_kept : (st : State) (e : Event) (t : ℕ) → (task_at (state_after st e) t).declared ≡ (task_at st t).declared
 unfolding ticked_task
-declared_kept st e t = tasks-left (λ k. k.declared) (λ m k. refl) (λ r k. refl) (λ k. refl) (λ x k. refl) st e (λ n i d. refl) t
+declared_kept st e t = tasks_left (λ k. k.declared) (λ m k. refl) (λ r k. refl) (λ k. refl) (λ x k. refl) st e (λ n i d. refl) t
 
 -- and the length of every array
 queue_long : (st : State) (e : Event) (q : ℕ) {x : Resource} → ResourceMade st e q x → length x.queue ≡ length (resource_at st q).queue
@@ -371,7 +371,7 @@ settled_shaped old st acting s = record {
   servers = s.servers;
   tasks = length_set_to places _ st.task ∙ s.tasks;
   resources = s.resources;
-  stacks = λ t l. settled-field (λ k. length k.held) (λ x k. refl) old st acting t ∙ s.stacks t l;
+  stacks = λ t l. settled_field (λ k. length k.held) (λ x k. refl) old st acting t ∙ s.stacks t l;
   queues = s.queues;
 }
 

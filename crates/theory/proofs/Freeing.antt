@@ -8,7 +8,7 @@ use Rattle.model.specs.Step.{state_after, stepped}
 use Rattle.theory.specs.Rules.{Proper, Rest, EndsStay, ExecutorsStay, TaskIs, Only, Nothing, Granted, Freed}
 use Rattle.theory.proofs.StacksAndQueues.{touched, touched_shows, touched_reads}
 use Rattle.theory.proofs.Executing.{Way}
-use Rattle.theory.proofs.Steps.{Quiet, properly, after_server, after_resource, task_is, rest-by, ends_stay, executors-stay}
+use Rattle.theory.proofs.Steps.{Quiet, properly, after_server, after_resource, task_is, rest_by, ends_stay, executors_stay}
 
 -- an event that stores task t and resource r, and after which nobody waits who did not
 stored
@@ -21,12 +21,12 @@ stored st e w t r k x is used known quiet =
     λ i. ap (λ z. task_at z i) is ∙ touched_shows st w.shaped t r used known k x (λ z. z) i in
     let resources : (q : ℕ) → resource_at (changed st e) q ≡ (if eqb q r then x else resource_at st q) =
     λ q. ap (λ z. resource_at z q) is ∙ touched_reads st w.shaped t r used known k x (λ z. z) q in (
-      rest-by st e w st.clock Nothing (Only t) (Only r) (rw is) (λ s u n. rw is) (λ i u n. tasks i ∙ rw (ne_eqb i t n))
+      rest_by st e w st.clock Nothing (Only t) (Only r) (rw is) (λ s u n. rw is) (λ i u n. tasks i ∙ rw (ne_eqb i t n))
           (λ q u n. resources q ∙ rw (ne_eqb q r n)),
       after_resource st e r ∙ resources r ∙ rw (eq-eqb r r refl),
       task_is st e w t used k (tasks t ∙ rw (eq-eqb t t refl)),
       ends_stay st e w quiet,
-      executors-stay st e w quiet (λ s u. ap (λ (z : Server). running z.phase) (after_server st e s) ∙ rw is),
+      executors_stay st e w quiet (λ s u. ap (λ (z : Server). running z.phase) (after_server st e s) ∙ rw is),
     )
 
 grants
@@ -47,12 +47,12 @@ frees st t r empty w =
     w.ground.0 w.ground.1 empty in
     record { rest = p.0; owner = p.1; stack = p.2; ends = p.3; executors = p.4 }
 
-pub grants-free
+pub grants_free
     : (st : State) (t r : ℕ) → Proper st (Lock (record { 0 = t }) r) → owned (resource_at st r).owner ≡ false
     → Granted st (stepped st (Lock (record { 0 = t }) r)).state t r
-grants-free st t r p free = properly st (Lock (record { 0 = t }) r) p (λ after. Granted st after t r) (grants st t r free)
+grants_free st t r p free = properly st (Lock (record { 0 = t }) r) p (λ after. Granted st after t r) (grants st t r free)
 
-pub frees-last
+pub frees_last
     : (st : State) (j r : ℕ) → Proper st (Unlock (record { 0 = j }) r) → (resource_at st r).waiting ≡ 0
     → Freed st (stepped st (Unlock (record { 0 = j }) r)).state j r
-frees-last st j r p empty = properly st (Unlock (record { 0 = j }) r) p (λ after. Freed st after j r) (frees st j r empty)
+frees_last st j r p empty = properly st (Unlock (record { 0 = j }) r) p (λ after. Freed st after j r) (frees st j r empty)

@@ -17,7 +17,7 @@ use Rattle.model.proofs.RuleH.{settled_next}
 use Rattle.theory.specs.Rules.{Proper, Through, ExecutorsStay, Only, Nothing, Passed, HandedOver}
 use Rattle.theory.proofs.Executing.{runs_ended, Way}
 use Rattle.theory.proofs.Passing as T
-use Rattle.theory.proofs.Steps.{properly, executor_none, nobody_serves, after_server, after_resource, task_is, rest-by, same_for, by_rule_h, executor_chosen, executor_same}
+use Rattle.theory.proofs.Steps.{properly, executor_none, nobody_serves, after_server, after_resource, task_is, rest_by, same_for, by_rule_h, executor_chosen, executor_same}
 use Rattle.theory.proofs.Readings.{other_for}
 use Rattle.theory.proofs.Lambda.{served_leads}
 use Rattle.laws.proofs.Ends.{leads_last}
@@ -35,11 +35,11 @@ module _ (st : State) where
   leads_here (suc k) x y u l = leads_here k (next st x) y (next_here st x l.0) l.1
 
   -- a link goes from a task to the owner of what it awaits
-  linked-owner
+  linked_owner
       : (w t : ℕ) → t < places → next st w ≡ t
       → (present st (awaited (task_at st w).mode) ≡ true) × (owner_no (resource_at st (awaited (task_at st w).mode)).owner ≡ t)
   unfolding next owner_of
-  linked-owner w t l e =
+  linked_owner w t l e =
       let q : ℕ = awaited (task_at st w).mode in
       let o : owner_of st q ≡ t = rw (linked_here st w (rw e l)) at e in
       split
@@ -48,10 +48,10 @@ module _ (st : State) where
       (λ n. absurd (omega (arith, rw n at o)))
 
   -- of a stack of one the top is all
-  only-held
+  only_held
       : Loose st → (t q : ℕ) → here st t ≡ true → present st q ≡ true → owner_no (resource_at st q).owner ≡ t → (task_at st t).depth ≡ 1 → top_of st t ≡ q
   unfolding held_at top_of
-  only-held facts t q u p o deep =
+  only_held facts t q u p o deep =
       rw deep
       (split
       (eqb (get_or (task_at st t).held 0 0) q)
@@ -159,8 +159,8 @@ module _ (st : State) (t r : ℕ) (some : 0 < (resource_at st r).waiting) (way :
       (λ z. absurd (n (z ∙ q)))
       (λ z.
       let a = leads_last places (next st) z.0 s (served st s) z.1 in
-      let o = linked-owner st a.0 t (here_below st t used) (a.2 ∙ q) in
-      let same : awaited (task_at st a.0).mode ≡ r = sym (only-held st way.facts t _ used o.0 o.1 one) ∙ way.ground.4 in
+      let o = linked_owner st a.0 t (here_below st t used) (a.2 ∙ q) in
+      let same : awaited (task_at st a.0).mode ≡ r = sym (only_held st way.facts t _ used o.0 o.1 one) ∙ way.ground.4 in
       through_heir z.0 s a.0 u a.1 (awaits_is (task_at st a.0).mode r (present_below st r known) same))
       (served_leads st s)
 
@@ -184,7 +184,7 @@ module _ (st : State) (t r : ℕ) (some : 0 < (resource_at st r).waiting) (way :
   passes : Passed st after t r h
   passes = record {
     rest =
-        rest-by st e way st.clock Nothing (λ y. (y ≡ t) ⊎ (y ≡ h)) (Only r) (ap (λ z. z.clock) changed_is)
+        rest_by st e way st.clock Nothing (λ y. (y ≡ t) ⊎ (y ≡ h)) (Only r) (ap (λ z. z.clock) changed_is)
         (λ s u n. server_now s)
         (λ y u n. task_now y ∙ rw (ne_eqb y h (λ q. n (inr q)), ne_eqb y t (λ q. n (inl q))))
         (λ q u n. resource_now q ∙ rw (ne_eqb q r n));
@@ -209,9 +209,9 @@ pub passes_on
 passes_on st j r p some =
     properly st (Unlock (record { 0 = j }) r) p (λ after. Passed st after j r (first_waiter (resource_at st r))) (passes st j r some)
 
-pub hands-all
+pub hands_all
     : (st : State) (j r : ℕ) → Proper st (Unlock (record { 0 = j }) r) → 0 < (resource_at st r).waiting → (task_at st j).depth ≡ 1
     → HandedOver st (stepped st (Unlock (record { 0 = j }) r)).state j r (first_waiter (resource_at st r))
-hands-all st j r p some one =
+hands_all st j r p some one =
     properly st (Unlock (record { 0 = j }) r) p (λ after. HandedOver st after j r (first_waiter (resource_at st r)))
     (λ way. hands_over st j r some way one)

@@ -13,7 +13,7 @@ use Rattle.theory.specs.Rules.{Proper, Inherits, ExecutorsStay, ExecutesNowhere,
 use Rattle.theory.proofs.Executing.{runs_for_lem, runs_served, runs_ready, Way}
 use Rattle.theory.proofs.StacksAndQueues.{touched_shows, touched_reads, touched}
 use Rattle.theory.proofs.Locking.{owner_here, link_others, ends_after_wait, apart, ended, locked_is, servers_stay, servers_rest, now_next}
-use Rattle.theory.proofs.Steps.{properly, executor_none, nobody_serves, after_here, after_server, after_resource, after-running, task_is, rest-by, same_for, by_rule_h, executor_lost, executor_same}
+use Rattle.theory.proofs.Steps.{properly, executor_none, nobody_serves, after_here, after_server, after_resource, after_running, task_is, rest_by, same_for, by_rule_h, executor_lost, executor_same}
 use Rattle.model.proofs.Variants.{recharging_is}
 use Rattle.theory.proofs.Readings.{resting, for_running, for_served, running_for_lem, running_here, spins_by, off_for, other_for}
 use Rattle.theory.proofs.Sleeping.{rested_set, rested_other, rested_still, rested_off}
@@ -71,7 +71,7 @@ module _ (st : State) (t r : ℕ) (taken : owned (resource_at st r).owner ≡ tr
     still s = after_server st e s ∙ ap (λ z. server_at z s) changed_is ∙ servers_stay st t r taken w awake s
 
     still_runs : (s : ℕ) → running_at after s ≡ running_at st s
-    still_runs s = after-running st e s (ap (λ (x : Server). running x.phase) (still s))
+    still_runs s = after_running st e s (ap (λ (x : Server). running x.phase) (still s))
 
     abbrev y : ℕ
     y = executor_of st t
@@ -189,10 +189,10 @@ module _ (st : State) (t r : ℕ) (taken : owned (resource_at st r).owner ≡ tr
       (λ y. apart st t r taken w (sym (joins s u (eqb-true _ t y)) ∙ q))
       (λ m. eqb-false _ t m (sym (others_stay s u (eqb-false _ t m)) ∙ q))))
 
-  rests-behind
+  rests_behind
       : suspended (task_at st j).mode ≡ true → (s : ℕ) → Inherits after j s
       → ((server_at after s).phase ≡ Idle) ⊎ ((server_at after s).phase ≡ Recharging)
-  rests-behind y s i =
+  rests_behind y s i =
       let u : here st s ≡ true = sym (after_here st e s) ∙ i.0 in
       split
       (recharging (server_at st s).phase)
@@ -204,7 +204,7 @@ module _ (st : State) (t r : ℕ) (taken : owned (resource_at st r).owner ≡ tr
       let awake : executing st j ≡ true → suspended (task_at st j).mode ≡ false = λ y. ap suspended (runs_ready st w.facts j y) in
       record {
         rest =
-            rest-by st e w st.clock Touched (Only t) (Only r) (ap (λ z. z.clock) changed_is) server_stays
+            rest_by st e w st.clock Touched (Only t) (Only r) (ap (λ z. z.clock) changed_is) server_stays
             (λ i u n. task_now i ∙ rw (ne_eqb i t n))
             (λ q u n. resource_now q ∙ rw (ne_eqb q r n));
         waits = task_is st e w t w.ground.0 k (task_now t ∙ rw (eq-eqb t t refl));
@@ -218,11 +218,11 @@ module _ (st : State) (t r : ℕ) (taken : owned (resource_at st r).owner ≡ tr
         spins_where_executing = λ y. (end_kept (awake y) y, locker_spins (awake y) y);
         executes_where_not = end_executed;
         rests = λ y s i c. after_server st e s ∙ rests y s i.0 (joins s i.0 i.1) c;
-        rests_behind_sleeper = rests-behind;
+        rests_behind_sleeper = rests_behind;
       }
 
-pub locks-behind
+pub locks_behind
     : (st : State) (t r : ℕ) → Proper st (Lock (record { 0 = t }) r) → owned (resource_at st r).owner ≡ true
     → LockedBehind st (stepped st (Lock (record { 0 = t }) r)).state t r (served st (owner_no (resource_at st r).owner))
-locks-behind st t r p taken =
+locks_behind st t r p taken =
     properly st (Lock (record { 0 = t }) r) p (λ after. LockedBehind st after t r (served st (owner_no (resource_at st r).owner))) (behind st t r taken)

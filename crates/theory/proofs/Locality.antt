@@ -22,7 +22,7 @@ use Rattle.model.proofs.RuleH.{serving_below}
 use Rattle.model.proofs.Sound.{Loose}
 use Rattle.theory.proofs.Frames.{heads_here, heads_present, heads_kept, clock_kept, changed_shaped, ServerReached, TaskMade, wakes_up, sleeps, waits, takes, inherits, gives, ticks, ResourceMade, queued, owned_by, given_up, passed_on, server_after, task_after, resource_after, rests_alone}
 use Rattle.theory.proofs.Readings.{for_running, for_served, running_here}
-use Rattle.theory.proofs.Agreement.{Labels, Agree, Homed, Good, good_home, good_self, here_same, running_same, executing_same, executes_same, executor_of_same, served_same, served_home, served_in, serves-same, for_same, chosen_same}
+use Rattle.theory.proofs.Agreement.{Labels, Agree, Homed, Good, good_home, good_self, here_same, running_same, executing_same, executes_same, executor_of_same, served_same, served_home, served_in, serves_same, for_same, chosen_same}
 
 -- what an event is to the order, by the labels
 abbrev pub kind_by : Labels → Event → Kind
@@ -69,14 +69,14 @@ module _ (l : Labels) (st : State) (good : Good l st) where
     task_home i (inherits t r d some k q) h = rw q (λ p. absurd (true≢false (sym p)))
     task_home i (ticks n d k q) h = rw q (home.waits i h)
 
-    resource-home
+    resource_home
         : (r : ℕ) {x : Resource} → ResourceMade st e r x → present st r ≡ true → here st (owner_no x.owner) ≡ true
         → l.of_resource r ≡ l.of_task (owner_no x.owner)
     unfolding here
-    resource-home r (queued t d q) p = rw q (home.owns r p)
-    resource-home r (owned_by t d q) p = rw q (λ h. lock_label t r (subst (Grounds st) d g))
-    resource-home r (given_up t d q) p = rw q (λ h. absurd (true≢false (sym h)))
-    resource-home r (passed_on t d some q) p = rw q (λ h. heir_label r p some)
+    resource_home r (queued t d q) p = rw q (home.owns r p)
+    resource_home r (owned_by t d q) p = rw q (λ h. lock_label t r (subst (Grounds st) d g))
+    resource_home r (given_up t d q) p = rw q (λ h. absurd (true≢false (sym h)))
+    resource_home r (passed_on t d some q) p = rw q (λ h. heir_label r p some)
 
     changed_home : Homed l (changed st e)
     changed_home =
@@ -89,7 +89,7 @@ module _ (l : Labels) (st : State) (good : Good l st) where
               ⊎_elim (λ q. rw q (λ x. home.waits t k x)) (λ m. task_home t m k) (task_after st e t) (sym (ps _) ∙ p);
           owns = λ r p h.
               let k = sym (ps r) ∙ p in
-              ⊎_elim (λ q. rw q (λ x. home.owns r k x)) (λ m. resource-home r m k) (resource_after st e r) (sym (hs _) ∙ h);
+              ⊎_elim (λ q. rw q (λ x. home.owns r k x)) (λ m. resource_home r m k) (resource_after st e r) (sym (hs _) ∙ h);
         }
 
   -- servers at rest are no waiters and own nothing
@@ -163,14 +163,14 @@ abbrev rebuilt : State → ℕ → List Server → List Task → List Resource �
 rebuilt st n ss ts rs = record { processors = st.processors; tasks = st.tasks; resources = st.resources; clock = n; server = ss; task = ts; resource = rs }
 
 module _ (l : Labels) (g : ℕ) (s u : State) (a : Agree l g s u) where
-  agree-by
+  agree_by
       : {n m : ℕ} {ss ss' : List Server} {ts ts' : List Task} {rs rs' : List Resource}
       → n ≡ m
       → SameAt l.of_task g places no_server ss ss'
       → SameAt l.of_task g places no_task ts ts'
       → SameAt l.of_resource g places no_resource rs rs'
       → Agree l g (rebuilt s n ss ts rs) (rebuilt u m ss' ts' rs')
-  agree-by e x y z = record {
+  agree_by e x y z = record {
     processors_same = a.processors_same;
     tasks_same = a.tasks_same;
     resources_same = a.resources_same;
@@ -180,11 +180,11 @@ module _ (l : Labels) (g : ℕ) (s u : State) (a : Agree l g s u) where
     resource_same = z;
   }
 
-  each-server
+  each_server_lem
       : (f h : ℕ → Server) → ((i : ℕ) → l.of_task i ≡ g → f i ≡ h i)
       → SameAt l.of_task g places no_server (set_to places (server_by s f) s.server) (set_to places (server_by u h) u.server)
   unfolding server_by
-  each-server f h v =
+  each_server_lem f h v =
       each_both a.server_same (server_by s f) (server_by u h) (λ i e. rw (here_same l g s u a i, v i e, a.server_same.entry i e) refl)
 
   module _ (home : Homed l s) (other : Homed l u) where
@@ -192,13 +192,13 @@ module _ (l : Labels) (g : ℕ) (s u : State) (a : Agree l g s u) where
       pub wakes_same : (i : ℕ) → wakes s t i ≡ wakes u t i
       unfolding wakes
       wakes_same =
-          serves-same l g s u a home other (λ x. here s x && idle (server_at s x).phase) (λ x. here u x && idle (server_at u x).phase) t e
+          serves_same l g s u a home other (λ x. here s x && idle (server_at s x).phase) (λ x. here u x && idle (server_at u x).phase) t e
           (λ x k. rw (here_same l g s u a x, a.server_same.entry x k) refl)
 
       pub rests_same : (i : ℕ) → rests s t i ≡ rests u t i
       unfolding rests
       rests_same =
-          serves-same l g s u a home other
+          serves_same l g s u a home other
           (λ x. here s x && (active (server_at s x).phase || running (server_at s x).phase))
           (λ x. here u x && (active (server_at u x).phase || running (server_at u x).phase))
           t e
@@ -206,11 +206,11 @@ module _ (l : Labels) (g : ℕ) (s u : State) (a : Agree l g s u) where
 
       rested_servers : SameAt l.of_task g places no_server (rested s t).server (rested u t).server
       unfolding rested each_server rested_server
-      rested_servers = each-server (rested_server s t) (rested_server u t) (λ i k. rw (rests_same i, a.server_same.entry i k) refl)
+      rested_servers = each_server_lem (rested_server s t) (rested_server u t) (λ i k. rw (rests_same i, a.server_same.entry i k) refl)
 
       woken_servers : SameAt l.of_task g places no_server (woken s t).server (woken u t).server
       unfolding woken each_server woken_server
-      woken_servers = each-server (woken_server s t) (woken_server u t) (λ i k. rw (wakes_same i, a.clock_same, a.server_same.entry i k) refl)
+      woken_servers = each_server_lem (woken_server s t) (woken_server u t) (λ i k. rw (wakes_same i, a.clock_same, a.server_same.entry i k) refl)
 
     -- a lock's new chain end is the group's, and its servers rest
     rested_end_same : (t : ℕ) → l.of_task t ≡ g → Agree l g (rested_end s t) (rested_end u t)
@@ -220,13 +220,13 @@ module _ (l : Labels) (g : ℕ) (s u : State) (a : Agree l g s u) where
         rw (← (served_same l g s u a home t e), ← (a.task_same.entry (served s t) k))
         (split
         (suspended (task_at s (served s t)).mode)
-        (λ y. rw y (agree-by a.clock_same (rested_servers (served s t) k) a.task_same a.resource_same))
+        (λ y. rw y (agree_by a.clock_same (rested_servers (served s t) k) a.task_same a.resource_same))
         (λ n. rw n a))
 
     recharged_same : (x : ℕ) → Agree l g (recharged s x) (recharged u x)
     unfolding recharged recharged_phase
     recharged_same x =
-        agree-by a.clock_same
+        agree_by a.clock_same
         (store_both a.server_same x (refilled (recharged_phase s x) s.clock (server_at s x)) (refilled (recharged_phase u x) u.clock (server_at u x))
         (λ k.
         rw (← (served_same l g s u a home x k), a.task_same.entry (served s x) (served_in l g s u a home x k), a.clock_same, a.server_same.entry x k) refl))
@@ -244,21 +244,21 @@ module _ (l : Labels) (g : ℕ) (s u : State) (a : Agree l g s u) where
   granted_same : (t r : ℕ) → Agree l g (granted s t r) (granted u t r)
   unfolding granted
   granted_same t r =
-      agree-by a.clock_same a.server_same (stored_both a.task_same t (pushed r)) (stored_both a.resource_same r (with_owner (By (record { 0 = t }))))
+      agree_by a.clock_same a.server_same (stored_both a.task_same t (pushed r)) (stored_both a.resource_same r (with_owner (By (record { 0 = t }))))
 
   joined_same : (t r : ℕ) → Agree l g (joined s t r) (joined u t r)
   unfolding joined
   joined_same t r =
-      agree-by a.clock_same a.server_same (stored_both a.task_same t (with_mode (Waiting r))) (stored_both a.resource_same r (enqueued t))
+      agree_by a.clock_same a.server_same (stored_both a.task_same t (with_mode (Waiting r))) (stored_both a.resource_same r (enqueued t))
 
   freed_same : (t r : ℕ) → Agree l g (freed s t r) (freed u t r)
   unfolding freed
-  freed_same t r = agree-by a.clock_same a.server_same (stored_both a.task_same t popped) (stored_both a.resource_same r (with_owner Nobody))
+  freed_same t r = agree_by a.clock_same a.server_same (stored_both a.task_same t popped) (stored_both a.resource_same r (with_owner Nobody))
 
   passed_same : (t r i : ℕ) → Agree l g (passed s t r i) (passed u t r i)
   unfolding passed
   passed_same t r i =
-      agree-by a.clock_same a.server_same
+      agree_by a.clock_same a.server_same
       (store_both (stored_both a.task_same t popped) i _ _ (λ k. ap (λ z. pushed r (with_mode Ready z)) (a.task_same.entry i k)))
       (stored_both a.resource_same r (λ x. with_owner (By (record { 0 = i })) (dequeued x)))
 
@@ -295,18 +295,18 @@ module _ (l : Labels) (g : ℕ) (s u : State) (a : Agree l g s u) (good : Good l
   changed_same : (e : Event) → sees g (kind_by l e) ≡ true → Grounds s e → Grounds u e → Agree l g (changed s e) (changed u e)
   unfolding woken slept rested each_server phased elapsed
   changed_same (Wake t) k c d =
-      agree-by l g s u a a.clock_same (woken_servers l g s u a own other t.0 (eqb-true _ g k))
+      agree_by l g s u a a.clock_same (woken_servers l g s u a own other t.0 (eqb-true _ g k))
       (stored_both a.task_same t.0 (with_mode Ready)) a.resource_same
   changed_same (Suspend t) k c d =
-      agree-by l g s u a a.clock_same (rested_servers l g s u a own other t.0 (eqb-true _ g k))
+      agree_by l g s u a a.clock_same (rested_servers l g s u a own other t.0 (eqb-true _ g k))
       (stored_both a.task_same t.0 (with_mode Suspended)) a.resource_same
   changed_same (Dispatch x) k c d =
-      agree-by l g s u a a.clock_same (stored_both a.server_same x.0 (with_phase Running)) a.task_same a.resource_same
+      agree_by l g s u a a.clock_same (stored_both a.server_same x.0 (with_phase Running)) a.task_same a.resource_same
   changed_same (Preempt x) k c d =
-      agree-by l g s u a a.clock_same (stored_both a.server_same x.0 (with_phase Active)) a.task_same a.resource_same
+      agree_by l g s u a a.clock_same (stored_both a.server_same x.0 (with_phase Active)) a.task_same a.resource_same
   changed_same (Elapse n) k c d =
-      agree-by l g s u a (ap (λ z. z + n) a.clock_same)
-      (each-server l g s u a (spent_server s n) (spent_server u n) (spent_same l g s u a own other n))
+      agree_by l g s u a (ap (λ z. z + n) a.clock_same)
+      (each_server_lem l g s u a (spent_server s n) (spent_server u n) (spent_same l g s u a own other n))
       (each_both a.task_same (task_by s (ticked_task s n)) (task_by u (ticked_task u n)) (ticked_same l g s u a own other n))
       a.resource_same
   changed_same (Recharge x) k c d = recharged_same l g s u a own other x.0
@@ -338,7 +338,7 @@ module _ (l : Labels) (g : ℕ) (old was s u : State) (before : Agree l g old wa
   settled_same : (a : ℕ) → Agree l g (settled old a s) (settled was a u)
   unfolding settled
   settled_same a =
-      agree-by l g s u now now.clock_same now.server_same
+      agree_by l g s u now now.clock_same now.server_same
       (each_both now.task_same (settled_task old a s) (settled_task was a u) (settled_task_same a)) now.resource_same
 
 -- and where it is settled already it changes nothing
@@ -392,10 +392,10 @@ after_same l g s u a good fine e k c d =
     (acting s e))
 
 -- and nothing to the others
-pub after-left
+pub after_left
     : (l : Labels) (g h : ℕ) (st : State) → Good l st → (e : Event) → kind_by l e ≡ group g → (g ≡ h → ⊥) → Grounds st e → Agree l h st (state_after st e)
 unfolding state_after
-after-left l g h st good e k n c =
+after_left l g h st good e k n c =
     subst (λ x. Agree l h x (settled st (acting st e) (changed st e))) (settled_still st good.loose (acting st e))
     (settled_same l h st st st (changed st e) (good_self l h st good) (changed_left l st good g h e c k n) (good_home l st good) (changed_home l st good e c)
     (acting st e))

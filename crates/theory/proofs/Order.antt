@@ -1,6 +1,6 @@
 -- Demand 3: from a sound, shaped state, where neither order is refused for want of a processor, each event gets its one answer and the last states are
 -- equal. `free` is the machine without processors; on a sound state a step that is refused neither 1 nor 8 does what `free` does, and refusal 1 never
--- comes. Whether `free` refuses an event and what it answers are its group's own matter (`verdict_same`, `outcome-same`): each test reads what the group
+-- comes. Whether `free` refuses an event and what it answers are its group's own matter (`verdict_same`, `outcome_same`): each test reads what the group
 -- reads, a lock of another group's resource is refused at 2, 3 or 4 before its owner is read, and an unlock of one at 17. It keeps `Good`, and writes
 -- what is the group's alone (Locality.antt), so it meets the laws of reordering for any labelling that fits (`ordered`). The groups of rule 11.1 are
 -- one: a task has its group's number, a resource that of the tasks that declare it. Assumes nothing.
@@ -16,7 +16,7 @@ use Rattle.reordering.proofs.Local.{group_inj, time_group, commute}
 use Rattle.reordering.specs.Machine.{Laws, Local}
 use Rattle.reordering.specs.Place.{Matching}
 use Rattle.reordering.specs.Run.{after, log, Each, Never}
-use Rattle.reordering.proofs.Answer.{reorder-places}
+use Rattle.reordering.proofs.Answer.{reorder_places}
 use Rattle.theory.proofs.Declared.{Task, State, Event, Wake, Suspend, Dispatch, Preempt, Elapse, Recharge, Lock, Unlock, Ok, RefusedWaiting, Answer, Outcome, Table}
 use Rattle.model.specs.State.{task_at, resource_at, awaited, here, present, declares, owned, owner_no, places, served, no_server, no_task, no_resource, nobody, in_set}
 use Rattle.model.specs.Step.{tests, ends_at, top_of, answered, state_after, refusing, outcome, stepped, free, move}
@@ -31,9 +31,9 @@ use Rattle.model.proofs.Sound.{sound_facts}
 use Rattle.fresh.proofs.Fresh.{fresh_sound, fresh_shaped}
 use Rattle.theory.specs.Runs.{refused_by}
 use Rattle.theory.proofs.Agreement.{Labels, Agree, Homed, here_same, present_same, executes_same, served_same, served_home, Good, good_home, agree_sym, agree_trans, Fits, good_self}
-use Rattle.theory.proofs.Locality.{kind_by, lock_label, unlock_label, owned_label, wakes_same, rests_same, after_same, after-left}
+use Rattle.theory.proofs.Locality.{kind_by, lock_label, unlock_label, owned_label, wakes_same, rests_same, after_same, after_left}
 use Rattle.theory.proofs.Groups.{fact_shares, linked_group}
-use Rattle.theory.proofs.Outcomes.{stepped_sound, stepped_free, stepped-has, outcome_has, outcome_not, no_test_1}
+use Rattle.theory.proofs.Outcomes.{stepped_sound, stepped_free, stepped_has, outcome_has, outcome_not, no_test_1}
 use Rattle.theory.proofs.Soundness.{kept, after_loose}
 use Rattle.theory.proofs.Frames.{declared_kept}
 use Rattle.theory.proofs.Steps.{after_here, after_present}
@@ -128,23 +128,23 @@ module _ (l : Labels) (g : ℕ) (s u : State) (a : Agree l g s u) (good : Good l
   verdict_same (Unlock t r) k = unlock_same t.0 r (group_inj k)
 
   -- the answer, from states before and after that agree; of an elapse it counts all servers
-  answered-same
+  answered_same
       : (v w : State) → Agree l g v w → Homed l v → (e : Event) → sees g (kind_by l e) ≡ true → Grounds s e
       → ((n : ℕ) → e ≡ Elapse n → count_to places (runs_out s n) ≡ count_to places (runs_out u n)) → answered s v e ≡ answered u w e
-  answered-same v w b later (Wake t) k o counts =
+  answered_same v w b later (Wake t) k o counts =
       ap Ok (count_ext places (wakes s t.0) (wakes u t.0) (λ i m. wakes_same l g s u a (good_home l s good) (good_home l u fine) t.0 (eqb-true _ g k) i))
-  answered-same v w b later (Suspend t) k o counts =
+  answered_same v w b later (Suspend t) k o counts =
       ap Ok (count_ext places (rests s t.0) (rests u t.0) (λ i m. rests_same l g s u a (good_home l s good) (good_home l u fine) t.0 (eqb-true _ g k) i))
-  answered-same v w b later (Dispatch x) k o counts =
+  answered_same v w b later (Dispatch x) k o counts =
       rw (executes_same l g v w b later x.0 (eqb-true _ g k), served_same l g v w b later x.0 (eqb-true _ g k)) refl
-  answered-same v w b later (Preempt x) k o counts =
+  answered_same v w b later (Preempt x) k o counts =
       let q = b.task_same.entry (served s x.0) (served_home l s (good_home l s good) x.0 ∙ eqb-true _ g k) in
       rw (executes_same l g s u a (good_home l s good) x.0 (eqb-true _ g k), ← (served_same l g s u a (good_home l s good) x.0 (eqb-true _ g k)), q) refl
-  answered-same v w b later (Elapse n) k o counts = ap Ok (counts n refl)
-  answered-same v w b later (Recharge x) k o counts = rw (b.server_same.entry x.0 (eqb-true _ g k)) refl
-  answered-same v w b later (Lock t r) k o counts =
+  answered_same v w b later (Elapse n) k o counts = ap Ok (counts n refl)
+  answered_same v w b later (Recharge x) k o counts = rw (b.server_same.entry x.0 (eqb-true _ g k)) refl
+  answered_same v w b later (Lock t r) k o counts =
       rw (a.resource_same.entry r (lock_label l s good t r o ∙ eqb-true _ g k), served_same l g v w b later t.0 (eqb-true _ g k)) refl
-  answered-same v w b later (Unlock t r) k o counts = rw (a.resource_same.entry r (unlock_label l s good t r o ∙ eqb-true _ g k)) refl
+  answered_same v w b later (Unlock t r) k o counts = rw (a.resource_same.entry r (unlock_label l s good t r o ∙ eqb-true _ g k)) refl
 
   -- the task that an event names is as it is, and so is what it awaits
   named_same : (e : Event) → kind_by l e ≡ group g → task_at s (number_of e) ≡ task_at u (number_of e)
@@ -162,15 +162,15 @@ module _ (l : Labels) (g : ℕ) (s u : State) (a : Agree l g s u) (good : Good l
       split (eqb n 62) (λ m. rw m (ap (λ k. RefusedWaiting (awaited k.mode)) (same (eqb-true n 62 m)))) (λ m. rw m)
 
   -- so one verdict has one outcome
-  pub outcome-same
+  pub outcome_same
       : (e : Event) → ((n : ℕ) → e ≡ Elapse n → count_to places (runs_out s n) ≡ count_to places (runs_out u n)) → (v : Option ℕ)
       → (v ≡ none → (sees g (kind_by l e) ≡ true) × Grounds s e × Grounds u e) → (v ≡ some 62 → task_at s (number_of e) ≡ task_at u (number_of e))
       → ((outcome v s e).answer ≡ (outcome v u e).answer) × Agree l g (outcome v s e).state (outcome v u e).state
-  outcome-same e counts none has names =
+  outcome_same e counts none has names =
       let o = has refl in
       let b = after_same l g s u a good fine e o.0 o.1 o.2 in
-      (answered-same (state_after s e) (state_after u e) b (good_home l _ (good_after l s e good o.1)) e o.0 o.1 counts, b)
-  outcome-same e counts (some n) has names = (refusing_same _ _ n (λ q. names (ap some q)), a)
+      (answered_same (state_after s e) (state_after u e) b (good_home l _ (good_after l s e good o.1)) e o.0 o.1 counts, b)
+  outcome_same e counts (some n) has names = (refusing_same _ _ n (λ q. names (ap some q)), a)
 
 -- `free` as a pair
 abbrev freely : State → Event → Answer × State
@@ -215,21 +215,21 @@ module _ (l : Labels) where
       }
 
   -- what `free` reads and writes is its group's
-  free-same
+  free_same
       : (g : ℕ) (s u : State) (e : Event) → kind_by l e ≡ group g → Good l s → Good l u → Agree l g s u
       → ((free s e).answer ≡ (free u e).answer) × Agree l g (free s e).state (free u e).state
   unfolding free verdict
-  free-same g s u e k good fine a =
+  free_same g s u e k good fine a =
       let q = verdict_same l g s u a good fine e k in
       rw (← q)
-      (outcome-same l g s u a good fine e (λ n p. absurd (time_group (ap (kind_by l) (sym p) ∙ k))) (verdict s e)
+      (outcome_same l g s u a good fine e (λ n p. absurd (time_group (ap (kind_by l) (sym p) ∙ k))) (verdict s e)
       (λ p. (rw k (eq-eqb g g refl), grounds s e p, grounds u e (sym q ∙ p)))
       (λ p. named_same l g s u a good fine e k))
 
   leaves : (g h : ℕ) (st : State) (e : Event) → kind_by l e ≡ group h → (h ≡ g → ⊥) → Good l st → Agree l g st (free st e).state
   unfolding free
   leaves g h st e k n good =
-      outcome_has (Agree l g st) (first_of (without 8 (tests st e))) st e (good_self l g st good) (λ p. after-left l h g st good e k n (grounds st e p))
+      outcome_has (Agree l g st) (first_of (without 8 (tests st e))) st e (good_self l g st good) (λ p. after_left l h g st good e k n (grounds st e p))
 
   free_local : Local (kind_by l) freely (Good l) (Agree l)
   free_local =
@@ -238,8 +238,8 @@ module _ (l : Labels) where
         agree_trans = agree_trans l;
         whole = whole;
         keeps = good_keeps;
-        reads = λ g s u e k good fine a. (free-same g s u e k good fine a).0;
-        writes = λ g s u e k good fine a. (free-same g s u e k good fine a).1;
+        reads = λ g s u e k good fine a. (free_same g s u e k good fine a).0;
+        writes = λ g s u e k good fine a. (free_same g s u e k good fine a).1;
         leaves = leaves;
       }
 
@@ -294,10 +294,10 @@ pub left_alone
 left_alone st shaped s e g h k n =
     let l = labels_of st in
     let good : Good l st = record { loose = ((sound_facts st).holds s).is_loose; shaped = shaped; fits = labels_fit st } in
-    let after = stepped-has (λ u. Agree l g st u × Good l u) st e (good_self l g st good, good)
+    let after = stepped_has (λ u. Agree l g st u × Good l u) st e (good_self l g st good, good)
     (λ y free.
     let o = grounds st e (unrefused_free st e free) in
-    (after-left l h g st good e (ap (λ kind. kind e) (sym (kinds_same st)) ∙ k) n o, good_after l st e good o)) in
+    (after_left l h g st good e (ap (λ kind. kind e) (sym (kinds_same st)) ∙ k) n o, good_after l st e good o)) in
     (good, after.0, after.1)
 
 -- what is not refused 8 is not refused 1 either
@@ -319,7 +319,7 @@ pub ordered
     (after move st xs ≡ after move st ys)
 ordered l kind same st f k h xs ys m p q =
     let w : Laws kind move freely for_processors (Good l) = rw same (laws l) in
-    reorder-places w st
+    reorder_places w st
     (record { loose = ((sound_facts st).holds h).is_loose; shaped = k; fits = f })
     xs ys m (unrefused st h k xs p) (unrefused st h k ys q)
 

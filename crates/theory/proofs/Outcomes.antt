@@ -1,5 +1,5 @@
 -- One step by its outcome: on a sound state it attempts the event, on another it changes nothing; what a refusal and an acceptance say. A law on the
--- state after an accepted event is one on steps by `stepped-has`; so entries past the counts stay (`past_kept`), in a state of any shape, because no
+-- state after an accepted event is one on steps by `stepped_has`; so entries past the counts stay (`past_kept`), in a state of any shape, because no
 -- accepted event reaches them. No test has number 1 and no accepted answer refuses, so refusal 1 means an unsound state and nothing else.
 -- Leans on Frames.antt. Assumes nothing.
 use Rattle.theory.proofs.Kit.{◌≡◌, refl, sym, ap, ◌∙◌, Bool, true, false, Option, none, some, ⊎_elim, ℕ, eqb, eqb-true, ne_eqb}
@@ -37,9 +37,9 @@ pub outcome_has : (P : State → Type 0) (x : Option ℕ) (st : State) (e : Even
 outcome_has P none st e before after = after refl
 outcome_has P (some n) st e before after = before
 
-pub stepped-has
+pub stepped_has
     : (P : State → Type 0) (st : State) (e : Event) → P st → (sound st ≡ true → first_of (tests st e) ≡ none → P (state_after st e)) → P (stepped st e).state
-stepped-has P st e before after =
+stepped_has P st e before after =
     split
     (sound st)
     (λ y. rw (stepped_sound st e y) (outcome_has P (first_of (tests st e)) st e before (after y)))
@@ -126,4 +126,4 @@ module _ (st : State) (i : ℕ) where
 
   pub past_kept : (e : Event) → Stays (stepped st e).state
   past_kept e =
-      stepped-has Stays st e (λ p. (refl, refl), λ p. refl) (λ y h. after_past ((sound_facts st).holds y).is_loose e (grounds st e (unrefused_free st e h)))
+      stepped_has Stays st e (λ p. (refl, refl), λ p. refl) (λ y h. after_past ((sound_facts st).holds y).is_loose e (grounds st e (unrefused_free st e h)))

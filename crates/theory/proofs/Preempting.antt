@@ -7,7 +7,7 @@ use Rattle.model.specs.Events.{with_phase, phased}
 use Rattle.model.specs.Step.{state_after, stepped}
 use Rattle.theory.specs.Rules.{Proper, ExecutorsStay, Preempted}
 use Rattle.theory.proofs.Executing.{runs_for_lem, Way, served_executes_lem}
-use Rattle.theory.proofs.Steps.{properly, nobody_serves, ends_stay, executor_chosen, executor-stays}
+use Rattle.theory.proofs.Steps.{properly, nobody_serves, ends_stay, executor_chosen, executor_stays}
 use Rattle.theory.proofs.Readings.{for_here, off_for}
 use Rattle.theory.proofs.Storing.{stored_server, stored_rest, stored_for}
 
@@ -34,7 +34,7 @@ module _ (st : State) (s : ℕ) (w : Way st (Preempt (record { 0 = s }))) where
 
   others : ExecutorsStay st after (λ t. executor_of st t ≡ s)
   others t u n =
-      executor-stays st e w t u
+      executor_stays st e w t u
       (λ y. let f = runs_for_lem st w.facts t y in stored t _ (for_here st t _ f) n ∙ f)
       (λ i v h. served_executes_lem st w.facts t i u (sym (stored t i v (λ q. holds_fails h (ap (running_for after t) q ∙ off t))) ∙ h))
 

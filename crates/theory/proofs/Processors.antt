@@ -5,7 +5,7 @@ use Rattle.theory.proofs.Kit.{◌≡◌, refl, sym, ap, ◌∙◌, Bool, true, f
 use Rattle.laws.specs.Tests.{if◌then◌else◌, first_of}
 use Rattle.laws.specs.Loops.{count_to}
 use Rattle.laws.proofs.Cases.{holds_fails, and_left, and_right, and_both, none_fails, none_later}
-use Rattle.laws.proofs.Count.{bit_le, count_ext, count_mono, count-but-one}
+use Rattle.laws.proofs.Count.{bit_le, count_ext, count_mono, count_but_one}
 use Rattle.theory.proofs.Declared.{Phase, Idle, Active, Running, Recharging, ServerNo, Server, State, Event, Wake, Suspend, Dispatch, Preempt, Elapse, Recharge, Lock, Unlock}
 use Rattle.model.specs.State.{places, no_server, server_at, here, running, running_at}
 use Rattle.model.specs.RuleH.{settled}
@@ -16,7 +16,7 @@ use Rattle.model.proofs.Sound.{Seated}
 use Rattle.model.proofs.RuleH.{settled_running}
 use Rattle.model.proofs.Grounds.{Grounds}
 use Rattle.theory.proofs.Frames.{heads_here, heads_kept, PhaseBy, ServerMade, in_phase, refills, spends, server_after}
-use Rattle.theory.proofs.Outcomes.{stepped-has}
+use Rattle.theory.proofs.Outcomes.{stepped_has}
 
 still_running : (b : Bool) (p q : Phase) → running p ≡ false → running (if b then p else q) ≡ true → running q ≡ true
 still_running true p q n h = holds_fails h n
@@ -51,7 +51,7 @@ pub dispatch_only
     running_at st s ≡ false → running_at (stepped st e).state s ≡ true → e ≡ Dispatch (record { 0 = s })
 unfolding state_after
 dispatch_only st e s before =
-    stepped-has (λ x. running_at x s ≡ true → e ≡ Dispatch (record { 0 = s })) st e (λ h. holds_fails h before)
+    stepped_has (λ x. running_at x s ≡ true → e ≡ Dispatch (record { 0 = s })) st e (λ h. holds_fails h before)
     (λ y n h.
     ⊎_elim (λ r. holds_fails r before) (λ q. q) (ran_by st e s (sym (settled_running st (changed st e) (acting st e) s) ∙ h)))
 
@@ -69,7 +69,7 @@ module _ (st : State) (seated : Seated st) where
   one_more : (s : ServerNo) → here st s.0 ≡ true → crowded st ≡ false → Seats (Dispatch s)
   unfolding phased running_at here crowded
   one_more s used room =
-      let k = count-but-one places s.0 (running_at (phased Running st s.0)) (running_at st) (here_below st s.0 used)
+      let k = count_but_one places s.0 (running_at (phased Running st s.0)) (running_at st) (here_below st s.0 used)
       (λ j l n.
       ap (λ (y : Server). here st j && running y.phase) (get_or-set_other st.server s.0 j (with_phase Running (server_at st s.0)) no_server n)) in
       let free : count_to places (running_at st) < st.processors = leb-false st.processors (count_to places (running_at st)) room in

@@ -9,7 +9,7 @@ use Rattle.theory.specs.Rules.{Proper, ExecutorsStay, Nothing, Recharged}
 use Rattle.theory.proofs.Steps.{properly, ends_stay}
 use Rattle.model.proofs.Variants.{recharging_is}
 use Rattle.theory.proofs.Readings.{off_for}
-use Rattle.theory.proofs.Storing.{stored_server, stored_rest, stored-executor}
+use Rattle.theory.proofs.Storing.{stored_server, stored_rest, stored_executor}
 use Rattle.theory.proofs.Executing.{Way}
 
 module _ (st : State) (s : ℕ) (w : Way st (Recharge (record { 0 = s }))) where
@@ -34,7 +34,7 @@ module _ (st : State) (s : ℕ) (w : Way st (Recharge (record { 0 = s }))) where
   others : ExecutorsStay st after Nothing
   unfolding recharged
   others u v n =
-      stored-executor st e w s x w.ground.0 refl tt u v
+      stored_executor st e w s x w.ground.0 refl tt u v
       (off_for after u s (ap (λ (z : Server). running z.phase) full ∙ resting)
       ∙ sym (off_for st u s (ap running (recharging_is (server_at st s).phase w.ground.1))))
 

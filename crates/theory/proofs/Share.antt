@@ -21,14 +21,14 @@ use Rattle.model.specs.Events.{runs_out, spent_server}
 use Rattle.model.specs.Step.{state_after, stepped, move}
 use Rattle.model.proofs.Sound.{sound_facts}
 use Rattle.model.proofs.Grounds.{Grounds, grounds, unrefused_free}
-use Rattle.model.proofs.Waking.{refills-fact, refills_covered}
+use Rattle.model.proofs.Waking.{refills_fact, refills_covered}
 use Rattle.model.proofs.Variants.{idle_is}
 use Rattle.fresh.proofs.Fresh.{server_fresh}
 use Rattle.theory.specs.Runs.{Accepted, reached}
 use Rattle.theory.specs.Share.{spent, WithinShare, Funded, SlackHolds, WithinWindow}
 use Rattle.theory.proofs.Frames.{PhaseBy, RefillBy, ServerMade, in_phase, refills, spends, server_after, servers_left, clock_on}
 use Rattle.theory.proofs.Serving.{ticks_add}
-use Rattle.theory.proofs.Outcomes.{stepped-has}
+use Rattle.theory.proofs.Outcomes.{stepped_has}
 use Rattle.theory.proofs.Soundness.{always, sound_always}
 use Rattle.theory.proofs.Unread.{stepped_here, run_here}
 
@@ -73,7 +73,7 @@ module _ (st : State) (e : Event) (g : Grounds st e) (s : ℕ) (used : here st s
   due =
       ⊎_elim (refills_covered st.clock x).holds
       (λ (q : e ≡ Recharge (record { 0 = s })).
-      (refills_covered st.clock x).holds ((refills-fact st.clock x).test (inl (subst (Grounds st) q g).2)))
+      (refills_covered st.clock x).holds ((refills_fact st.clock x).test (inl (subst (Grounds st) q g).2)))
 
   runs : running_at st s ≡ true → running x.phase ≡ true
   unfolding running_at
@@ -132,9 +132,9 @@ record Moves (clock : ℕ) (x : Server) (later : ℕ) (y : Server) : Type 0 wher
 moves_self : (clock : ℕ) (x : Server) → Moves clock x clock x
 moves_self clock x = record { quota = refl; period = refl; passes = omega arith; slack = omega arith; reach = omega arith; funds = λ f. f }
 
-moves-then
+moves_then
     : (t : ℕ) (x : Server) (u : ℕ) (y : Server) (v : ℕ) (z : Server) → Moves t x u y → Moves u y v z → Moves t x v z
-moves-then t x u y v z a b =
+moves_then t x u y v z a b =
     record {
       quota = b.quota ∙ a.quota;
       period = b.period ∙ a.period;
@@ -164,10 +164,10 @@ module _ (t u : ℕ) (x y : Server) (on : t ≤ u) where
   horizon_due : Due t x → horizon t x * x.quota ≤ t * x.quota + x.budget * x.period
   horizon_due l = split (leb x.deadline t) (λ h. rw h (omega arith)) (λ n. rw n l)
 
-  charged-reach
+  charged_reach
       : Charged t x y → horizon t x * x.quota + (spent_by y + y.budget) * x.period ≤ horizon u y * x.quota + (spent_by x + x.budget) * x.period
-  charged-reach (carries d b z) = rw b (omega (arith, mul-le-mul_right x.quota (horizon_on d)))
-  charged-reach (fills d b z l) =
+  charged_reach (carries d b z) = rw b (omega (arith, mul-le-mul_right x.quota (horizon_on d)))
+  charged_reach (fills d b z l) =
       let most : t + x.period ≤ horizon u y = omega (arith, d, (horizon_least u y).1) in
       rw (b, z) (omega (arith, mul-le-mul_right x.quota most, filled (horizon t x) t x.period x.quota (spent_by x) x.budget (horizon_due l)))
 
@@ -186,7 +186,7 @@ module _ (t u : ℕ) (x y : Server) (on : t ≤ u) where
 
     charged_moves : Charged t x y → Moves t x u y
     charged_moves c =
-        record { quota = quota; period = period; passes = on; slack = charged_slack c; reach = charged-reach c; funds = charged_funds c }
+        record { quota = quota; period = period; passes = on; slack = charged_slack c; reach = charged_reach c; funds = charged_funds c }
 
 -- a step, and a run
 abbrev Passes : State → ℕ → State → Type 0
@@ -195,7 +195,7 @@ Passes st s later = Moves st.clock (server_at st s) later.clock (server_at later
 step_moves : (st : State) (e : Event) (s : ℕ) → here st s ≡ true → Passes st s (stepped st e).state
 unfolding state_after settled spent_server
 step_moves st e s used =
-    stepped-has (Passes st s) st e (moves_self st.clock (server_at st s))
+    stepped_has (Passes st s) st e (moves_self st.clock (server_at st s))
     (λ y h.
     charged_moves st.clock (state_after st e).clock (server_at st s) (server_at (state_after st e) s) (clock_on st e)
     (servers_left (λ x. x.quota) (λ p x. refl) (λ p k x. refl) st e (λ n i q. refl) s)
@@ -207,7 +207,7 @@ unfolding after
 run_moves st [] s used = moves_self st.clock (server_at st s)
 run_moves st (e ∷ es) s used =
     let next : State = (stepped st e).state in
-    moves-then st.clock (server_at st s) next.clock (server_at next s) (after move next es).clock (server_at (after move next es) s)
+    moves_then st.clock (server_at st s) next.clock (server_at next s) (after move next es).clock (server_at (after move next es) s)
     (step_moves st e s used)
     (run_moves next es s (stepped_here st e s ∙ used))
 

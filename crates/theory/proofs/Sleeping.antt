@@ -9,10 +9,10 @@ use Rattle.model.specs.State.{no_task, server_at, task_at, here, idle, active, r
 use Rattle.model.specs.Events.{with_task, with_phase, refilled, with_mode, each_server, refills_at, woken_at, wakes, woken_server, woken, rests, rested_server, rested, slept, changed}
 use Rattle.model.specs.Step.{state_after, stepped}
 use Rattle.model.proofs.Chain.{here_below}
-use Rattle.model.proofs.Waking.{refills-fact}
+use Rattle.model.proofs.Waking.{refills_fact}
 use Rattle.theory.specs.Rules.{Proper, Rest, ExecutorsStay, TaskIs, Only, Nothing, Slept, Woken, ExecutesNowhere}
 use Rattle.theory.proofs.Serving.{each_at}
-use Rattle.theory.proofs.Steps.{properly, after_server, task_is, rest-by, ends_stay, same_for, executor_lost, executor_same, executors-stay}
+use Rattle.theory.proofs.Steps.{properly, after_server, task_is, rest_by, ends_stay, same_for, executor_lost, executor_same, executors_stay}
 use Rattle.model.proofs.Variants.{idle_is, recharging_is}
 use Rattle.theory.proofs.Readings.{resting, for_served, off_for, other_for}
 use Rattle.theory.proofs.Executing.{Way}
@@ -120,7 +120,7 @@ module _
         → Rest st (state_after st e) st.clock servers (Only j) Nothing
     unfolding each_server
     stirred servers same =
-        rest-by st e w st.clock servers (Only j) Nothing (rw is)
+        rest_by st e w st.clock servers (Only j) Nothing (rw is)
         (λ s u n. sym (after_server st e s) ∙ anew s u ∙ same s u n)
         (λ t u n. stores t ∙ rw (ne_eqb t j n))
         (λ r u n. rw is)
@@ -144,14 +144,14 @@ module _ (st : State) (j : ℕ) (w : Way st (Wake (record { 0 = j }))) where
     fills = λ s i y r.
         at s i.0
         ∙ woken_set st j s i.0 i.1 y
-        ∙ wakes_filled st.clock (server_at st s) ((refills-fact st.clock (server_at st s)).test r);
+        ∙ wakes_filled st.clock (server_at st s) ((refills_fact st.clock (server_at st s)).test r);
     leaves = λ s i y n.
         at s i.0
         ∙ woken_set st j s i.0 i.1 y
-        ∙ wakes_left st.clock (server_at st s) (reflects_false (refills-fact st.clock (server_at st s)) n);
+        ∙ wakes_left st.clock (server_at st s) (reflects_false (refills_fact st.clock (server_at st s)) n);
     wakes = stored st j e w (woken_server st j) k w.ground.0 refl;
     ends = ends_stay st e w tt;
-    executors = executors-stay st e w tt (λ s u. ap (λ (x : Server). running x.phase) (at s u) ∙ woken_phase st j s u);
+    executors = executors_stay st e w tt (λ s u. ap (λ (x : Server). running x.phase) (at s u) ∙ woken_phase st j s u);
   }
 
 module _ (st : State) (j : ℕ) (w : Way st (Suspend (record { 0 = j }))) where

@@ -7,7 +7,7 @@ use Rattle.theory.proofs.Kit.{◌≡◌, refl, sym, ◌∙◌, ap, true, true≢
 use Rattle.laws.specs.Tests.{first_of, bit}
 use Rattle.laws.specs.Loops.{count_to}
 use Rattle.laws.proofs.Cases.{split, holds_fails, unheld_fails, and_left, and_right, and_both}
-use Rattle.laws.proofs.Count.{count_zero, count-but-one}
+use Rattle.laws.proofs.Count.{count_zero, count_but_one}
 use Rattle.laws.proofs.Standing.{stands_points}
 use Rattle.laws.specs.Links.{Leads}
 use Rattle.reordering.specs.Run.{after, log, Each, Never}
@@ -152,7 +152,7 @@ module _ (st : State) (facts : Loose st) where
       (λ y.
       let s = executor_of st t in
       let in-it = executor_executes t y in
-      let k = count-but-one places s (executes_in st t) (λ j. false) (serving_below st t s (executes_for t s in-it))
+      let k = count_but_one places s (executes_in st t) (λ j. false) (serving_below st t s (executes_for t s in-it))
       (λ j l n. unheld_fails _ (λ h. n (sym (executes_in_lem st t j h)))) in
       omega (arith, k, ap bit y, ap bit in-it, count_zero places (λ j. false) (λ i l. refl)))
       (λ n.

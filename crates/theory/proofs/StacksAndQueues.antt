@@ -6,7 +6,7 @@ use Rattle.theory.proofs.Kit.{◌≡◌, refl, sym, ap, ◌∙◌, true, false, 
 use Rattle.laws.specs.Tests.{if◌then◌else◌, bit}
 use Rattle.laws.proofs.Cases.{split}
 use Rattle.laws.proofs.Lists.{set_keeps}
-use Rattle.laws.proofs.Standing.{same-standing, put-standing, taken-standing}
+use Rattle.laws.proofs.Standing.{same_standing, put_standing, taken_standing}
 use Rattle.theory.proofs.Declared.{TaskNo, Waiting, Nobody, By, Task, Resource, State}
 use Rattle.model.specs.State.{places, nobody, no_task, no_resource, task_at, resource_at, in_set, here, present, declares, waiting, awaited, owned, owner_no}
 use Rattle.model.specs.Shape.{Shaped}
@@ -62,20 +62,20 @@ module _ (st : State) (shaped : Shaped st) (t r : ℕ) (used : here st t ≡ tru
       touched_declaration d i u = rw (task_field (λ z. z.declared) may i) (d i u)
 
       -- stacks see what tasks hold, and owners; queues see what tasks want
-      pub touched-stacks
+      pub touched_stacks
           : k.depth ≡ (task_at st t).depth → k.held ≡ (task_at st t).held → x.owner ≡ (resource_at st r).owner → Stacks st → Stacks after
       unfolding here present
-      touched-stacks deep has owner =
-          same-standing (λ q. refl) (λ y. refl)
+      touched_stacks deep has owner =
+          same_standing (λ q. refl) (λ y. refl)
           (λ y. sym (task_field (λ z. z.depth) deep y)) (λ y j. ap (λ h. get_or h j 0) (sym (task_field (λ z. z.held) has y)))
           (λ q. ap owned (sym (resource_field (λ z. z.owner) owner q))) (λ q. ap owner_no (sym (resource_field (λ z. z.owner) owner q)))
           (λ y q. sym (touched_declares y q))
 
-      pub touched-queues
+      pub touched_queues
           : k.mode ≡ (task_at st t).mode → x.waiting ≡ (resource_at st r).waiting → x.queue ≡ (resource_at st r).queue → Queues st → Queues after
       unfolding here present
-      touched-queues mode many line =
-          same-standing (λ y. refl) (λ q. refl)
+      touched_queues mode many line =
+          same_standing (λ y. refl) (λ q. refl)
           (λ q. sym (resource_field (λ z. z.waiting) many q))
           (λ q j. ap (λ l. (get_or {A = TaskNo} l j (record { 0 = 0 })).0) (sym (resource_field (λ z. z.queue) line q)))
           (λ y. ap waiting (sym (task_field (λ z. z.mode) mode y))) (λ y. ap awaited (sym (task_field (λ z. z.mode) mode y)))
@@ -96,7 +96,7 @@ module _ (st : State) (shaped : Shaped st) (t r : ℕ) (used : here st t ≡ tru
         let new = pushed r k in
         let by = with_owner (By (record { 0 = t })) x in
         let long = shaped.stacks t (here_below st t used) in
-        put-standing l (here_below st)
+        put_standing l (here_below st)
         r t
         (rw (task_self new by) (push_filled k long r room (present st) (l.filled t used) known))
         (λ y n. (ap (λ z. z.depth) (task_other new by y n), λ j. ap (λ z. held_in z j) (task_other new by y n)))
@@ -113,7 +113,7 @@ module _ (st : State) (shaped : Shaped st) (t r : ℕ) (used : here st t ≡ tru
         let new = popped k in
         let by = with_owner Nobody x in
         let fits = (l.filled t used).0 in
-        taken-standing l (here_below st)
+        taken_standing l (here_below st)
         r t
         (rw (task_self new by) (pop_filled k some fits (present st) (l.filled t used)))
         (λ y n. (ap (λ z. z.depth) (task_other new by y n), λ j. ap (λ z. held_in z j) (task_other new by y n)))
@@ -132,7 +132,7 @@ module _ (st : State) (shaped : Shaped st) (t r : ℕ) (used : here st t ≡ tru
         let new = with_mode (Waiting r) k in
         let by = enqueued t x in
         let wide = shaped.queues r (present_below st r known) in
-        put-standing l (present_below st)
+        put_standing l (present_below st)
         t r
         (rw (resource_self new by) (enter_filled x wide t room (here st) (l.filled r known) used))
         (λ q n. (ap (λ z. z.waiting) (resource_other new by q n), λ j. ap (λ z. queued_in z j) (resource_other new by q n)))

@@ -1,6 +1,6 @@
 -- Why a task does not act (rule 10.4). In a sound state a task in use is asleep, awaits a resource, is unserved or executes, one of the four
 -- (`one_of_four`); an event that is admitted is refused 61, 62 or 63 where its task is the first, the second or the third (`which`), other events never
--- (`tells_admitted`), and 62 names what the task awaits (`names_awaited`); no event of another group changes any of it (`others-leave`). Assumes nothing.
+-- (`tells_admitted`), and 62 names what the task awaits (`names_awaited`); no event of another group changes any of it (`others_leave`). Assumes nothing.
 use Rattle.theory.proofs.Kit.{◌≡◌, refl, sym, ap, ◌∙◌, Bool, true, false, not, ◌&&◌, true≢false, List, ◌∷◌, Option, some, ⊎_elim, ℕ, ◌+◌, ◌≤◌, arith}
 use Rattle.laws.specs.Tests.{bit, accepted, first_of}
 use Rattle.laws.specs.Loops.{all_to}
@@ -27,15 +27,15 @@ use Rattle.theory.proofs.Agreement.{for_same, good_home}
 use Rattle.theory.proofs.Order.{labels_of, left_alone}
 
 -- one of the four, by the task's mode and whether it executes
-four-sum
+four_sum
     : (m : Mode) (runs : Bool) → (runs ≡ true → m ≡ Ready)
     → bit (suspended m) + bit (waiting m) + bit (not (suspended m) && not (waiting m) && not runs) + bit runs ≡ 1
-four-sum Suspended true ready = absurd (true≢false (ap suspended (ready refl)))
-four-sum Suspended false ready = refl
-four-sum Ready true ready = refl
-four-sum Ready false ready = refl
-four-sum (Waiting r) true ready = absurd (true≢false (ap waiting (ready refl)))
-four-sum (Waiting r) false ready = refl
+four_sum Suspended true ready = absurd (true≢false (ap suspended (ready refl)))
+four_sum Suspended false ready = refl
+four_sum Ready true ready = refl
+four_sum Ready false ready = refl
+four_sum (Waiting r) true ready = absurd (true≢false (ap waiting (ready refl)))
+four_sum (Waiting r) false ready = refl
 
 module _ (st : State) (s : sound st ≡ true) (t : ℕ) (used : here st t ≡ true) where
   facts : Loose st
@@ -59,19 +59,19 @@ module _ (st : State) (s : sound st ≡ true) (t : ℕ) (used : here st t ≡ tr
   pub one_of_four : bit (asleep st t) + bit (awaits st t) + bit (unserved st t) + bit (executing st t) ≡ 1
   unfolding unserved executing
   one_of_four =
-      rw (used, ← unplaced_unserved) (four-sum (task_at st t).mode (placed (task_at st t).runs) (λ y. runs_ready st facts t (and_both _ _ used y)))
+      rw (used, ← unplaced_unserved) (four_sum (task_at st t).mode (placed (task_at st t).runs) (λ y. runs_ready st facts t (and_both _ _ used y)))
 
 -- which of the three numbers comes first
-three-told
+three_told
     : (m : Mode) (runs : Bool) (following : List (ℕ × Bool)) → ((n : ℕ) → 61 ≤ n → first_of following ≡ some n → ⊥)
     → let first : Option ℕ = first_of ((61, suspended m) ∷ (62, waiting m) ∷ (63, not runs) ∷ following) in
     (tells 61 first ≡ suspended m) × (tells 62 first ≡ waiting m) × (tells 63 first ≡ (not (suspended m) && not (waiting m) && not runs))
 unfolding first_of
-three-told Suspended runs following low = (refl, refl, refl)
-three-told Ready true following low =
+three_told Suspended runs following low = (refl, refl, refl)
+three_told Ready true following low =
     (tells_not 61 _ (low 61 (omega arith)), tells_not 62 _ (low 62 (omega arith)), tells_not 63 _ (low 63 (omega arith)))
-three-told Ready false following low = (refl, refl, refl)
-three-told (Waiting r) runs following low = (refl, refl, refl)
+three_told Ready false following low = (refl, refl, refl)
+three_told (Waiting r) runs following low = (refl, refl, refl)
 
 abbrev pub Told : State → Event → Type 0
 Told st e =
@@ -80,29 +80,29 @@ Told st e =
     (refused_by 63 (stepped st e).answer ≡ unserved st (number_of e))
 
 module _ (st : State) (s : sound st ≡ true) where
-  told-by
+  told_by
       : (e : Event) → Admitted st e → (following : List (ℕ × Bool)) → first_of (tests st e) ≡ first_of (stalled (task_at st (number_of e)) following)
       → ((n : ℕ) → 61 ≤ n → first_of following ≡ some n → ⊥) → Told st e
   unfolding unserved
-  told-by e a following first low =
+  told_by e a following first low =
       let k = task_at st (number_of e) in
-      let told = three-told k.mode (placed k.runs) following low in
+      let told = three_told k.mode (placed k.runs) following low in
       let tells_as : (m : ℕ) → refused_by m (stepped st e).answer ≡ tells m (first_of (stalled k following)) =
       λ m. ap (λ o. refused_by m o.answer) (stepped_sound st e s) ∙ outcome_tells m (first_of (tests st e)) st e ∙ ap (tells m) first in
       (tells_as 61 ∙ told.0, tells_as 62 ∙ told.1, tells_as 63 ∙ told.2 ∙ rw (unplaced_unserved st s (number_of e) (admitted_here st e a)) refl)
 
   pub which : (e : Event) → Admitted st e → Told st e
   which (Wake t) a = absurd a
-  which (Suspend t) a = told-by (Suspend t) a accepted (first_no _ _ _ (ap not a)) (λ n l h. untold n h)
+  which (Suspend t) a = told_by (Suspend t) a accepted (first_no _ _ _ (ap not a)) (λ n l h. untold n h)
   which (Dispatch x) a = absurd a
   which (Preempt x) a = absurd a
   which (Elapse n) a = absurd a
   which (Recharge x) a = absurd a
   which (Lock t r) a =
-      told-by (Lock t r) a _ (first_no _ _ _ (ap not a.0) ∙ first_no _ _ _ (ap not a.1) ∙ first_no _ _ _ (ap not a.2))
+      told_by (Lock t r) a _ (first_no _ _ _ (ap not a.0) ∙ first_no _ _ _ (ap not a.1) ∙ first_no _ _ _ (ap not a.2))
       (λ n l h. untold n (later n l 16 refl _ _ (later n l 15 refl _ _ h)))
   which (Unlock t r) a =
-      told-by (Unlock t r) a _ (first_no _ _ _ (ap not a.0) ∙ first_no _ _ _ (ap not a.1))
+      told_by (Unlock t r) a _ (first_no _ _ _ (ap not a.0) ∙ first_no _ _ _ (ap not a.1))
       (λ n l h. untold n (later n l 18 refl _ _ (later n l 17 refl _ _ h)))
 
 -- the three are told of no other events
@@ -132,11 +132,11 @@ names_awaited st e by =
     ))
     (refused_why st e 62 by)
 
-pub others-leave
+pub others_leave
     : (st : State) → Shaped st → sound st ≡ true → (e : Event) (t h : ℕ) → kind_of st e ≡ group h → (h ≡ group_of st t → ⊥)
     → ((task_at (stepped st e).state t).mode ≡ (task_at st t).mode) × (unserved (stepped st e).state t ≡ unserved st t)
 unfolding unserved not_running_for labels_of
-others-leave st shaped s e t h k n =
+others_leave st shaped s e t h k n =
     let l = labels_of st in
     let left = left_alone st shaped s e (group_of st t) h k n in
     let agree = left.1 in

@@ -12,10 +12,10 @@ use Rattle.model.specs.RuleH.{budget_at, chosen, settled_task, settled}
 use Rattle.model.specs.Events.{changed, acting, woken_server, woken, rested_server, rested, slept, phased, elapsed, recharged, granted, freed, locked, unlocked}
 use Rattle.model.specs.Step.{state_after, stepped}
 use Rattle.model.proofs.Chain.{here_below}
-use Rattle.model.proofs.Chosen.{chosen-alone}
+use Rattle.model.proofs.Chosen.{chosen_alone}
 use Rattle.model.proofs.Grounds.{Grounds}
 use Rattle.model.proofs.Sound.{Loose}
-use Rattle.model.proofs.RuleH.{settled_here, settled_for, settled_executor, settled-chooses, settled_served}
+use Rattle.model.proofs.RuleH.{settled_here, settled_for, settled_executor, settled_chooses, settled_served}
 use Rattle.theory.specs.Rules.{Proper, TaskIs, Rest, EndsStay, ExecutorsStay, ExecutesNowhere, Nothing, RuleH}
 use Rattle.theory.proofs.Frames.{heads_here, heads_present, heads_kept}
 use Rattle.theory.proofs.Executing.{runs_for_lem, now_here, inside, rule_h, Way, served_executes_lem, runs_ready}
@@ -57,11 +57,11 @@ module _ (st : State) (e : Event) where
   unfolding state_after settled
   after_resource r = refl
 
-  pub after-running
+  pub after_running
       : (s : ℕ) → running (server_at (state_after st e) s).phase ≡ running (server_at st s).phase
       → running_at (state_after st e) s ≡ running_at st s
   unfolding running_at
-  after-running s p = rw (after_here s, p)
+  after_running s p = rw (after_here s, p)
 
 -- what an accepted event's way shows of the state after the change and rule H is so after the step
 pub properly : (st : State) (e : Event) → Proper st e → (P : State → Type 0) → (Way st e → P (state_after st e)) → P (stepped st e).state
@@ -118,7 +118,7 @@ module _ (st : State) (e : Event) (w : Way st e) where
       ∙ rw (h, is, settled_executor st now (acting st e) t h l)
 
   -- the rest stays where the change leaves it
-  pub rest-by
+  pub rest_by
       : (clock : ℕ) (servers tasks resources : ℕ → Type 0)
       → now.clock ≡ clock
       → ((s : ℕ) → here st s ≡ true → (servers s → ⊥) → server_at now s ≡ server_at st s)
@@ -126,7 +126,7 @@ module _ (st : State) (e : Event) (w : Way st e) where
       → ((r : ℕ) → present st r ≡ true → (resources r → ⊥) → resource_at now r ≡ resource_at st r)
       → Rest st after clock servers tasks resources
   unfolding state_after settled
-  rest-by clock servers tasks resources c s t r = record {
+  rest_by clock servers tasks resources c s t r = record {
     processor_count = (heads_kept st e).0;
     task_count = (heads_kept st e).1;
     resource_count = (heads_kept st e).2;
@@ -146,7 +146,7 @@ module _ (st : State) (e : Event) (w : Way st e) where
       : (t s : ℕ) → served after s ≡ served st s → running (server_at after s).phase ≡ running (server_at st s).phase
       → running_for after t s ≡ running_for st t s
   unfolding running_for
-  same_for t s ends p = rw (after-running st e s p, ends)
+  same_for t s ends p = rw (after_running st e s p, ends)
 
   -- who executes
   module _ (t : ℕ) (used : here st t ≡ true) where
@@ -157,12 +157,12 @@ module _ (st : State) (e : Event) (w : Way st e) where
     unfolding state_after settled budget_at
     executor_chosen f h =
         let still = settled_for st now (acting st e) t in
-        settled-chooses st now (acting st e) t
+        settled_chooses st now (acting st e) t
         (now_here st e w.shaped t used)
         (inside st e w.shaped t used)
         (sym (still _) ∙ f)
         (sym (still _) ∙ h)
-        ∙ sym (chosen-alone after now t t (λ s l. still s) (λ s l r. refl))
+        ∙ sym (chosen_alone after now t t (λ s l. still s) (λ s l r. refl))
 
     -- where no Running server serves it, nowhere
     pub executor_lost : ((s : ℕ) → here st s ≡ true → running_for after t s ≡ false) → ExecutesNowhere after t
@@ -173,11 +173,11 @@ module _ (st : State) (e : Event) (w : Way st e) where
         (none, executor_none after t (after_here st e t ∙ used) none)
 
     -- who executed goes on, and where nobody did nobody does
-    pub executor-stays
+    pub executor_stays
         : (executing st t ≡ true → running_for after t (executor_of st t) ≡ true)
         → ((s : ℕ) → here st s ≡ true → running_for after t s ≡ true → executing st t ≡ true)
         → executor_of after t ≡ executor_of st t
-    executor-stays keep fewer =
+    executor_stays keep fewer =
         split
         (executing st t)
         (λ y. by_rule_h.keeps (keep y))
@@ -185,11 +185,11 @@ module _ (st : State) (e : Event) (w : Way st e) where
 
     pub executor_same : ((s : ℕ) → here st s ≡ true → running_for after t s ≡ running_for st t s) → executor_of after t ≡ executor_of st t
     executor_same same =
-        executor-stays
+        executor_stays
         (λ y. let f = runs_for_lem st w.facts t y in same _ (for_here st t _ f) ∙ f)
         (λ s u h. served_executes_lem st w.facts t s used (sym (same s u) ∙ h))
 
   -- the same servers run, with the same ends: the same executors
-  pub executors-stay
+  pub executors_stay
       : Quiet st e → ((s : ℕ) → here st s ≡ true → running (server_at after s).phase ≡ running (server_at st s).phase) → ExecutorsStay st after Nothing
-  executors-stay q same t u n = executor_same t u (λ s v. same_for t s (ends_stay q s v) (same s v))
+  executors_stay q same t u n = executor_same t u (λ s v. same_for t s (ends_stay q s v) (same s v))

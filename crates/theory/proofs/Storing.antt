@@ -8,7 +8,7 @@ use Rattle.model.specs.Events.{with_server, changed}
 use Rattle.model.specs.Step.{state_after}
 use Rattle.model.proofs.Chain.{here_below}
 use Rattle.theory.specs.Rules.{Rest, Only, Nothing}
-use Rattle.theory.proofs.Steps.{Quiet, after_server, rest-by, ends_stay, same_for, executor_same}
+use Rattle.theory.proofs.Steps.{Quiet, after_server, rest_by, ends_stay, same_for, executor_same}
 use Rattle.theory.proofs.Executing.{Way}
 use Rattle.laws.specs.Tests.{if◌then◌else◌}
 
@@ -26,15 +26,15 @@ module _ (st : State) (e : Event) (w : Way st e) (s : ℕ) (x : Server) (used : 
   stored_other i n = stored_at i ∙ rw (ne_eqb i s n)
 
   pub stored_rest : Rest st after st.clock (Only s) Nothing Nothing
-  stored_rest = rest-by st e w st.clock (Only s) Nothing Nothing (rw is) (λ i u n. stored_other i n) (λ t u n. rw is) (λ r u n. rw is)
+  stored_rest = rest_by st e w st.clock (Only s) Nothing Nothing (rw is) (λ i u n. stored_other i n) (λ t u n. rw is) (λ r u n. rw is)
 
   -- who runs for a task among the other servers
   pub stored_for : Quiet st e → (t i : ℕ) → here st i ≡ true → (i ≡ s → ⊥) → running_for after t i ≡ running_for st t i
   stored_for q t i u n = same_for st e w t i (ends_stay st e w q i u) (ap (λ (z : Server). running z.phase) (after_server st e i ∙ stored_other i n))
 
   -- a task for which the server ran as it runs now executes where it did
-  pub stored-executor
+  pub stored_executor
       : Quiet st e → (t : ℕ) → here st t ≡ true → running_for after t s ≡ running_for st t s → executor_of after t ≡ executor_of st t
-  stored-executor q t u same =
+  stored_executor q t u same =
       executor_same st e w t u
       (λ i v. split (eqb i s) (λ y. rw (eqb-true i s y) same) (λ m. stored_for q t i v (eqb-false i s m)))

@@ -6,7 +6,7 @@ use native.Mathlib.Nat.{mul-add, mul-one, mul-zero}
 use Rattle.laws.specs.Tests.{if◌then◌else◌, bit}
 use Rattle.laws.specs.Loops.{count_to, sum_to}
 use Rattle.laws.proofs.Cases.{split, holds_fails, unheld_fails, and_left}
-use Rattle.laws.proofs.Count.{bit_le, count_sum, count_zero, count-but-one}
+use Rattle.laws.proofs.Count.{bit_le, count_sum, count_zero, count_but_one}
 use Rattle.laws.proofs.Sum.{sum_ext, sum_swap, sum_zero}
 use Rattle.reordering.specs.Run.{after}
 use Rattle.theory.proofs.Declared.{State, Table, Event}
@@ -50,7 +50,7 @@ module _ (st : State) (facts : Loose st) where
       (executes st s)
       (λ y.
       let l : served st s < places = served_below st s (here_below st s (executes_here st s y)) in
-      let k = count-but-one places (served st s) (λ t. executes_in st t s) (λ t. false) l
+      let k = count_but_one places (served st s) (λ t. executes_in st t s) (λ t. false) l
       (λ t m n. rw (y, ne_eqb (served st s) t (λ e. n (sym e)))) in
       omega (arith, k, ap bit y, ap bit (in_own y), count_zero places (λ t. false) (λ t m. refl)))
       (λ n. ap bit n ∙ sym (count_zero places (λ t. executes_in st t s) (λ t l. rw n)))
@@ -86,13 +86,13 @@ abbrev did : State → ℕ → ℕ
 did st t = (task_at st t).executed
 
 -- a total that grows by n where p holds, of the same numbers in use
-total-grows
+total_grows
     : (st next : State) (f g : ℕ → ℕ) (n : ℕ) (p : ℕ → Bool)
     → ((i : ℕ) → here next i ≡ here st i)
     → ((i : ℕ) → here st i ≡ false → p i ≡ false)
     → ((i : ℕ) → here st i ≡ true → f i ≡ g i + (if p i then n else 0))
     → total next f ≡ total st g + n * count_to places p
-total-grows st next f g n p same out grows =
+total_grows st next f g n p same out grows =
     sum_grows places n p _ _
     (λ i l.
     rw (same i)
@@ -123,12 +123,12 @@ module _ (st : State) (s : sound st ≡ true) (e : Event) where
 
   did_grows : total next (did next) ≡ total st (did st) + n * count_to places (executing st)
   unfolding executing
-  did_grows = total-grows st next (did next) (did st) n (executing st) (stepped_here st e) (λ i m. rw m) (λ i u. (accounts i u).executed)
+  did_grows = total_grows st next (did next) (did st) n (executing st) (stepped_here st e) (λ i m. rw m) (λ i u. (accounts i u).executed)
 
   gave_grows : total next (gave next) ≡ total st (gave st) + n * count_to places (executing st)
   unfolding lent_ticks
   gave_grows =
-      total-grows st next (gave next) (gave st) n (executes st) (stepped_here st e)
+      total_grows st next (gave next) (gave st) n (executes st) (stepped_here st e)
       (λ i m. unheld_fails _ (λ h. holds_fails (executes_here st i h) m))
       (λ i u.
       let a = accounts i u in
@@ -153,14 +153,14 @@ run_totals st shaped s (e ∷ es) =
     let rest = run_totals (stepped st e).state k.0 k.1 es in
     (omega (arith, gave_grows st s e, rest.0), omega (arith, did_grows st s e, rest.1))
 
-run-each
+run_each
     : (st : State) → Shaped st → sound st ≡ true → (es : List Event) (t : ℕ) → here st t ≡ true
     → did (after move st es) t ≡ did st t + ticks_for t st es
 unfolding after ticks_for
-run-each st shaped s [] t u = omega arith
-run-each st shaped s (e ∷ es) t u =
+run_each st shaped s [] t u = omega arith
+run_each st shaped s (e ∷ es) t u =
     let k = kept st e shaped s in
-    omega (arith, one_grows st s e t u, run-each (stepped st e).state k.0 k.1 es t (stepped_here st e t ∙ u))
+    omega (arith, one_grows st s e t u, run_each (stepped st e).state k.0 k.1 es t (stepped_here st e t ∙ u))
 
 -- nothing is spent in a fresh state: its clock is 0
 module _ (st : State) (facts : Loose st) (zero-clock : st.clock ≡ 0) where
@@ -197,6 +197,6 @@ module _ (tb : Table) (a : Accepted tb) (es : List Event) where
       → (did (reached tb es) t ≡ ticks_for t st es) × (count_to places (executes_in (reached tb es) t) ≤ 1)
   each_tick_once t u =
       let used : here st t ≡ true = sym (run_here st es t) ∙ u in (
-        omega (arith, run-each st (fresh_shaped tb) (fresh_sound tb a) es t used, none_did st fresh_facts (fresh_clock tb) t used),
+        omega (arith, run_each st (fresh_shaped tb) (fresh_sound tb a) es t used, none_did st fresh_facts (fresh_clock tb) t used),
         rw (servers_that_execute tb a es t u).0 (bit_le (executing (reached tb es) t)),
       )

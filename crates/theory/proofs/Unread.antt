@@ -18,10 +18,10 @@ use Rattle.model.specs.Step.{crowded, affords, tests, stepped, move}
 use Rattle.model.proofs.Sound.{Loose, sound_facts}
 use Rattle.model.proofs.Grounds.{Grounds, grounds, unrefused_free}
 use Rattle.model.proofs.Stalled.{admitted, admitted_here}
-use Rattle.theory.proofs.Outcomes.{stepped-has, stepped_sound}
+use Rattle.theory.proofs.Outcomes.{stepped_has, stepped_sound}
 use Rattle.theory.proofs.Agreement.{Labels, Agree, Homed, agree_sym, here_same, present_same, next_same, served_same, served_in, for_same, Good}
 use Rattle.theory.proofs.Locality.{kind_by}
-use Rattle.theory.proofs.Order.{verdict, verdict_same, outcome-same}
+use Rattle.theory.proofs.Order.{verdict, verdict_same, outcome_same}
 use Rattle.theory.proofs.Steps.{after_here, after_present}
 
 -- what is in use has the label 0
@@ -124,11 +124,11 @@ module _ (l : Labels) (s u : State) (c : Covers l s) (a : Agree l 0 s u) where
       })
 
 -- the tests of a task that is not in use stop at the first
-by-actor
+by_actor
     : (s u : State) (t : ℕ) (xs ys : List (ℕ × Bool)) → here s t ≡ here u t
     → (here s t ≡ true → first_of ((2, not (here s t)) ∷ xs) ≡ first_of ((2, not (here u t)) ∷ ys))
     → first_of ((2, not (here s t)) ∷ xs) ≡ first_of ((2, not (here u t)) ∷ ys)
-by-actor s u t xs ys same f = split (here s t) f (λ n. first_yes 2 _ xs (ap not n) ∙ sym (first_yes 2 _ ys (ap not (sym same ∙ n))))
+by_actor s u t xs ys same f = split (here s t) f (λ n. first_yes 2 _ xs (ap not n) ∙ sym (first_yes 2 _ ys (ap not (sym same ∙ n))))
 
 module _ (l : Labels) (s u : State) (c : Covers l s) (a : Agree l 0 s u) (shaped : Shaped s) (other : Shaped u) (y : sound s ≡ true) where
   good : Good l s
@@ -161,17 +161,17 @@ module _ (l : Labels) (s u : State) (c : Covers l s) (a : Agree l 0 s u) (shaped
   -- one verdict,
   firsts : (e : Event) → first_of (tests s e) ≡ first_of (tests u e)
   unfolding verdict without
-  firsts (Wake t) = by-actor s u t.0 _ _ (here_same l 0 s u a t.0) (λ h. verdict_same l 0 s u a good fine (Wake t) (ap group (c.task t.0 h)))
-  firsts (Suspend t) = by-actor s u t.0 _ _ (here_same l 0 s u a t.0) (λ h. verdict_same l 0 s u a good fine (Suspend t) (ap group (c.task t.0 h)))
+  firsts (Wake t) = by_actor s u t.0 _ _ (here_same l 0 s u a t.0) (λ h. verdict_same l 0 s u a good fine (Wake t) (ap group (c.task t.0 h)))
+  firsts (Suspend t) = by_actor s u t.0 _ _ (here_same l 0 s u a t.0) (λ h. verdict_same l 0 s u a good fine (Suspend t) (ap group (c.task t.0 h)))
   firsts (Dispatch x) =
-      by-actor s u x.0 _ _ (here_same l 0 s u a x.0)
+      by_actor s u x.0 _ _ (here_same l 0 s u a x.0)
       (λ h. rw (here_same l 0 s u a x.0, a.server_same.entry x.0 (c.task x.0 h), crowds))
-  firsts (Preempt x) = by-actor s u x.0 _ _ (here_same l 0 s u a x.0) (λ h. verdict_same l 0 s u a good fine (Preempt x) (ap group (c.task x.0 h)))
+  firsts (Preempt x) = by_actor s u x.0 _ _ (here_same l 0 s u a x.0) (λ h. verdict_same l 0 s u a good fine (Preempt x) (ap group (c.task x.0 h)))
   firsts (Elapse n) =
       ap₂ (λ k b. first_of (10 when eqb n 0 || ltb 1000000 n or 11 when ltb clock_limit (k + n) or 12 when not b or accepted)) a.clock_same (each_both n)
-  firsts (Recharge x) = by-actor s u x.0 _ _ (here_same l 0 s u a x.0) (λ h. verdict_same l 0 s u a good fine (Recharge x) (ap group (c.task x.0 h)))
-  firsts (Lock t r) = by-actor s u t.0 _ _ (here_same l 0 s u a t.0) (λ h. verdict_same l 0 s u a good fine (Lock t r) (ap group (c.task t.0 h)))
-  firsts (Unlock t r) = by-actor s u t.0 _ _ (here_same l 0 s u a t.0) (λ h. verdict_same l 0 s u a good fine (Unlock t r) (ap group (c.task t.0 h)))
+  firsts (Recharge x) = by_actor s u x.0 _ _ (here_same l 0 s u a x.0) (λ h. verdict_same l 0 s u a good fine (Recharge x) (ap group (c.task x.0 h)))
+  firsts (Lock t r) = by_actor s u t.0 _ _ (here_same l 0 s u a t.0) (λ h. verdict_same l 0 s u a good fine (Lock t r) (ap group (c.task t.0 h)))
+  firsts (Unlock t r) = by_actor s u t.0 _ _ (here_same l 0 s u a t.0) (λ h. verdict_same l 0 s u a good fine (Unlock t r) (ap group (c.task t.0 h)))
 
   -- an accepted event is time passing or the group's own
   seen : (e : Event) → Grounds s e → sees 0 (kind_by l e) ≡ true
@@ -188,7 +188,7 @@ module _ (l : Labels) (s u : State) (c : Covers l s) (a : Agree l 0 s u) (shaped
   sound_unread : (e : Event) → ((stepped s e).answer ≡ (stepped u e).answer) × Agree l 0 (stepped s e).state (stepped u e).state
   sound_unread e =
       rw (stepped_sound s e y, stepped_sound u e (sound_both l s u c a y), ← (firsts e))
-      (outcome-same l 0 s u a good fine e (λ n d. count_ext places (runs_out s n) (runs_out u n) (λ i m. out_both n i)) (first_of (tests s e))
+      (outcome_same l 0 s u a good fine e (λ n d. count_ext places (runs_out s n) (runs_out u n) (λ i m. out_both n i)) (first_of (tests s e))
       (λ h.
       let gs = grounds s e (unrefused_free s e h) in
       (seen e gs, gs, grounds u e (unrefused_free u e (sym (firsts e) ∙ h))))
@@ -208,7 +208,7 @@ unread l s u c a shaped other e =
 
 -- what is in use is so after a step and after a run
 pub stepped_here : (st : State) (e : Event) (i : ℕ) → here (stepped st e).state i ≡ here st i
-stepped_here st e i = stepped-has (λ x. here x i ≡ here st i) st e refl (λ y h. after_here st e i)
+stepped_here st e i = stepped_has (λ x. here x i ≡ here st i) st e refl (λ y h. after_here st e i)
 
 pub run_here : (st : State) (es : List Event) (i : ℕ) → here (after move st es) i ≡ here st i
 unfolding after
@@ -216,7 +216,7 @@ run_here st [] i = refl
 run_here st (e ∷ es) i = run_here (stepped st e).state es i ∙ stepped_here st e i
 
 pub stepped_present : (st : State) (e : Event) (r : ℕ) → present (stepped st e).state r ≡ present st r
-stepped_present st e r = stepped-has (λ x. present x r ≡ present st r) st e refl (λ y h. after_present st e r)
+stepped_present st e r = stepped_has (λ x. present x r ≡ present st r) st e refl (λ y h. after_present st e r)
 
 -- the labels that say what is in use
 module _ (st : State) where

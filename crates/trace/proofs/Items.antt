@@ -46,14 +46,14 @@ whole file at e =
     (omega arith, ltb-false _ _ c, ltb-false _ _ a))
     (λ f. none_some (sym (rw (a, b, c, d, f) at e)))))))
 
-got-by
+got_by
     : (file : List ℕ) (at : ℕ) (f : Option ℕ) (r : Record) (p : Place)
     → read_fault file at ≡ f → read_by f file at ≡ Got r p → (at + 6 ≤ p.at) × (p.at ≤ length file)
-got-by file at none r p e g =
+got_by file at none r p e g =
     let w = whole file at e in
     let moved : p.at ≡ at + 2 + two_bytes file at = cc in
     (omega arith, omega arith)
-got-by file at (some n) r p e g = let z : ◌≡◌ {A = ℕ} 0 1 = cc in absurd (omega arith)
+got_by file at (some n) r p e g = let z : ◌≡◌ {A = ℕ} 0 1 = cc in absurd (omega arith)
 
 pub read_moves : (file : List ℕ) (at : ℕ) (r : Record) (p : Place) → read_at file at ≡ Got r p → (at + 6 ≤ p.at) × (p.at ≤ length file)
 unfolding read_at
@@ -61,7 +61,7 @@ read_moves file at r p g =
     split
     (leb (length file) at)
     (λ y. let z : ◌≡◌ {A = Read} End (Got r p) = rw y at g in let z : ◌≡◌ {A = ℕ} 0 1 = cc in absurd (omega arith))
-    (λ n. got-by file at (read_fault file at) r p refl (rw n at g))
+    (λ n. got_by file at (read_fault file at) r p refl (rw n at g))
 
 -- fuel that is more than what is left of the file gives the same items, however much it is
 rest_more

@@ -30,9 +30,9 @@ module _ (file : List ℕ) (at k : ℕ) (e : Event) where
   pub elapse_record : (ticks : ℕ) → k ≡ 5 → ticks ≡ four_bytes file at → e ≡ event_of k 0 0 ticks → Happening e ≡ record_in k file at
   elapse_record ticks five t h = happens (omega arith) (omega arith) (h ∙ rw (five, t))
 
-  pub pair-record
+  pub pair_record
       : (n r : ℕ) → 7 ≤ k → k ≤ 8 → n ≡ two_bytes file at → r ≡ two_bytes file (at + 2) → e ≡ event_of k n r 0 → Happening e ≡ record_in k file at
-  pair-record n r a b p q h = happens (omega arith) b (h ∙ rw (ne_eqb k 5 (λ z. omega arith), p, q))
+  pair_record n r a b p q h = happens (omega arith) b (h ∙ rw (ne_eqb k 5 (λ z. omega arith), p, q))
 
   pub one_record : (n : ℕ) → 1 ≤ k → k ≤ 6 → (k ≡ 5 → ⊥) → n ≡ two_bytes file at → e ≡ event_of k n 0 0 → Happening e ≡ record_in k file at
   one_record n a b c p h = happens a (omega arith) (h ∙ ap (λ m. event_of k m 0 0) p ∙ one_event k (two_bytes file at) 0 (two_bytes file (at + 2)) 0 (four_bytes file at) a b c)

@@ -15,7 +15,7 @@ use Rattle.trace.specs.Reading.{is_event, event_of}
 use Rattle.image.specs.Decoded.{decoded}
 use Rattle.image.specs.InUse.{AlikeInUse, SamePast}
 use Rattle.image.proofs.Image.{decoded_long, decoded_counts}
-use Rattle.image.proofs.Alike.{alike_decoded, encoded_past, encoded-alike}
+use Rattle.image.proofs.Alike.{alike_decoded, encoded_past, encoded_alike}
 use Rattle.vesztamor.specs.Exported.{Exported, sound_export, executing_said, executing_export, step_left, step_by, step_export}
 
 module _ (a b : List ℕ) (alike : AlikeInUse a b) where
@@ -40,15 +40,15 @@ abbrev pub CountsKept : Type 0
 CountsKept = (st : State) (e : Event) → ((stepped st e).state.tasks ≡ st.tasks) × ((stepped st e).state.resources ≡ st.resources)
 
 module _ (kept : CountsKept) (e : Event) where
-  done-both
+  done_both
       : (a b : List ℕ) (st : State) → decoded a ≡ some st → AlikeInUse a b → Both (step_left (stepped st e) a) (step_left (stepped st e) b)
-  done-both a b st d alike =
+  done_both a b st d alike =
       let counts = decoded_counts a st d in
       let k = kept st e in (
         refl,
         split (is_refused (stepped st e).answer)
             (λ y. rw y alike)
-            (λ n. rw n (encoded-alike (stepped st e).state a b (k.0 ∙ counts.0) (k.1 ∙ counts.1) (decoded_long a st d) alike)),
+            (λ n. rw n (encoded_alike (stepped st e).state a b (k.0 ∙ counts.0) (k.1 ∙ counts.1) (decoded_long a st d) alike)),
       )
 
   done_past : (bytes : List ℕ) (st : State) → decoded bytes ≡ some st → SamePast bytes (step_left (stepped st e) bytes).bytes
@@ -61,19 +61,19 @@ module _ (kept : CountsKept) (e : Event) where
 
   held_both : (d : Option State) (a b : List ℕ) → decoded a ≡ d → AlikeInUse a b → Both (step_by d e a) (step_by d e b)
   held_both none a b h alike = (refl, alike)
-  held_both (some st) a b h alike = done-both a b st h alike
+  held_both (some st) a b h alike = done_both a b st h alike
 
   held_past : (d : Option State) (bytes : List ℕ) → decoded bytes ≡ d → SamePast bytes (step_by d e bytes).bytes
   held_past none bytes h = λ i past. refl
   held_past (some st) bytes h = done_past bytes st h
 
 module _ (kept : CountsKept) (kind number resource ticks : ℕ) where
-  pub step-alike
+  pub step_alike
       : (a b : List ℕ) → AlikeInUse a b
       → ((step_export a kind number resource ticks).answer ≡ (step_export b kind number resource ticks).answer)
       × AlikeInUse (step_export a kind number resource ticks).bytes (step_export b kind number resource ticks).bytes
   unfolding step_export
-  step-alike a b alike =
+  step_alike a b alike =
       rw (← (alike_decoded a b alike))
       (either_both (is_event kind) _ _ _ _ (held_both kept (event_of kind number resource ticks) (decoded a) a b refl alike) (refl, alike))
 

@@ -1,5 +1,5 @@
 -- What the exported meter rows answer and leave: a law for each way out; that a refusal writes nothing (`meter_keeps`), that a row of a server in use is
--- that server's (`meter-row`), and that what stands past these rows stays (`meter-past`). Assumes nothing.
+-- that server's (`meter_row`), and that what stands past these rows stays (`meter_past`). Assumes nothing.
 use mathlib.Core.Path.{◌≡◌, refl, sym, ap, ap₂, ◌∙◌}
 use mathlib.Core.List.{List, [], ◌∷◌, ◌++◌}
 use mathlib.Core.Option.{Option, none, some}
@@ -58,22 +58,22 @@ module _ (state bytes : List ℕ) where
     unfolding meter_export
     meter_none e = rw (eq-eqb (length bytes % meter_row_size) 0 whole, e)
 
-    pub meter-some
+    pub meter_some
         : (st : State) → decoded state ≡ some st → (a : Answer) → a ≡ decided_on st (length bytes / meter_row_size) → (n : ℕ) → n ≡ written a
         → meter_export state bytes ≡ record { answer = said a; bytes = metered_bytes st n bytes }
     unfolding meter_export decided_on
-    meter-some st e a d n w = rw (w, d, eq-eqb (length bytes % meter_row_size) 0 whole, e) (left_by st bytes (length bytes / meter_row_size) _ refl)
+    meter_some st e a d n w = rw (w, d, eq-eqb (length bytes % meter_row_size) 0 whole, e) (left_by st bytes (length bytes / meter_row_size) _ refl)
 
 -- for the code that writes the rows: they fit, and a row is stored where it belongs
 pub rows_fit
     : (st : State) (room : ℕ) (a : Answer) → a ≡ decided_on st (room / meter_row_size) → (n : ℕ) → n ≡ written a → meter_row_size * n ≤ room
 rows_fit st room a d n w = omega (arith, w, ap written d, written_fits st (room / meter_row_size))
 
-pub row-stored
+pub row_stored
     : (l k : List ℕ) (st : State) (s : ℕ) (r : Row) → r ≡ row_of st s → k ≡ stored l (meter_row_size * s) (row_bytes r)
     → k ≡ stored l (0 + meter_row_size * s) (server_row_bytes st s)
 unfolding server_row_bytes
-row-stored l k st s r e h = h ∙ ap₂ (λ at row. stored l at (row_bytes row)) (sym (zero-add (meter_row_size * s))) e
+row_stored l k st s r e h = h ∙ ap₂ (λ at row. stored l at (row_bytes row)) (sym (zero-add (meter_row_size * s))) e
 
 -- A refusal writes nothing.
 left_keeps : (r : Option ℕ) (st : State) (bytes : List ℕ) → Keeps bytes (meter_left r st bytes)
@@ -95,44 +95,44 @@ unfolding stored
 stored_past [] l at i h = refl
 stored_past (x ∷ xs) l at i h = stored_past xs (set l at x) (suc at) i (omega arith) ∙ get_or-set_other l at i x 0 (λ e. omega arith)
 
-left-past
+left_past
     : (r : Option ℕ) (st : State) (bytes : List ℕ) (i : ℕ) → meter_row_size * st.tasks ≤ i → byte_at (meter_left r st bytes).bytes i ≡ byte_at bytes i
 unfolding metered_bytes
-left-past none st bytes i h = stored_past (join_to st.tasks (server_row_bytes st)) bytes 0 i (omega (arith, rows_long st st.tasks))
-left-past (some n) st bytes i h = refl
+left_past none st bytes i h = stored_past (join_to st.tasks (server_row_bytes st)) bytes 0 i (omega (arith, rows_long st st.tasks))
+left_past (some n) st bytes i h = refl
 
-pub meter-past
+pub meter_past
     : (state bytes : List ℕ) (st : State) → decoded state ≡ some st → (i : ℕ) → meter_row_size * st.tasks ≤ i
     → byte_at (meter_export state bytes).bytes i ≡ byte_at bytes i
 unfolding meter_export
-meter-past state bytes st e i h =
+meter_past state bytes st e i h =
     split
     (eqb (length bytes % meter_row_size) 0)
-    (λ y. rw (y, e) (left-past (meter_refusal st (length bytes / meter_row_size)) st bytes i h))
+    (λ y. rw (y, e) (left_past (meter_refusal st (length bytes / meter_row_size)) st bytes i h))
     (λ n. rw n)
 
 -- A row of a server in use has that server's bytes.
-left-row
+left_row
     : (r : Option ℕ) (st : State) (bytes : List ℕ) (lent : ℕ) → r ≡ meter_refusal st lent → meter_row_size * lent ≤ length bytes
     → (meter_left r st bytes).answer.0 ≡ ok → (s : ℕ) → s < st.tasks
     → Stands (server_row_bytes st s) (meter_left r st bytes).bytes (meter_row_size * s)
 unfolding metered_bytes
-left-row none st bytes lent e fits a s l =
+left_row none st bytes lent e fits a s l =
     let rows = join_to st.tasks (server_row_bytes st) in
     let rest = drop (length rows) bytes in
     moved (server_row_bytes st s) (stored bytes 0 rows) (0 + meter_row_size * s) (meter_row_size * s) (zero-add _)
     (rw (stored_first bytes rows (omega (arith, rows_long st st.tasks, accepted_enough st lent (sym e))))
     (stands_part (server_row_bytes st) meter_row_size (server_row_long st) st.tasks s (rows ++ rest) 0 l (stands_first rows rest (rows ++ rest) 0 (stands_self (rows ++ rest)))))
-left-row (some n) st bytes lent e fits a s l = let z : ◌≡◌ {A = ℕ} 0 1 = cc in absurd (omega arith)
+left_row (some n) st bytes lent e fits a s l = let z : ◌≡◌ {A = ℕ} 0 1 = cc in absurd (omega arith)
 
-pub meter-row
+pub meter_row
     : (state bytes : List ℕ) (st : State) → decoded state ≡ some st → (meter_export state bytes).answer.0 ≡ ok → (s : ℕ) → s < st.tasks
     → Stands (server_row_bytes st s) (meter_export state bytes).bytes (meter_row_size * s)
 unfolding meter_export
-meter-row state bytes st e a s l =
+meter_row state bytes st e a s l =
     split
     (eqb (length bytes % meter_row_size) 0)
-    (λ y. rw (y, e) (left-row (meter_refusal st (length bytes / meter_row_size)) st bytes (length bytes / meter_row_size) refl (omega arith) (rw (y, e) at a) s l))
+    (λ y. rw (y, e) (left_row (meter_refusal st (length bytes / meter_row_size)) st bytes (length bytes / meter_row_size) refl (omega arith) (rw (y, e) at a) s l))
     (λ n.
     let q : refused ≡ ok = rw n at a in
     let z : ◌≡◌ {A = ℕ} 0 1 = cc in

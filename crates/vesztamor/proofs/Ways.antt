@@ -89,12 +89,12 @@ module _ (sections : List ℕ) (task allowance : ℕ) (bytes : List ℕ) where
     bound_unread n = rw (eq-eqb (length bytes) bound_size long, n)
 
     module _ (read : is_sections sections ≡ true) (found : Bounded) (e : found ≡ answer (sections_in sections) task allowance) where
-      pub bound-found
+      pub bound_found
           : (value weighings : ℕ)
           → found ≡ bounded.Bound value weighings
           → bound_export sections task allowance bytes ≡ record { answer = (ok, bound_size, none); bytes = bound_bytes value weighings }
       unfolding bound_export
-      bound-found value weighings m = rw (eq-eqb (length bytes) bound_size long, read, ← e, m)
+      bound_found value weighings m = rw (eq-eqb (length bytes) bound_size long, read, ← e, m)
 
       pub bound_refused : (n : ℕ) → found ≡ bounded.Refused n → bound_export sections task allowance bytes ≡ refusal n bytes
       unfolding bound_export
@@ -125,16 +125,16 @@ module _ (bytes : List ℕ) (kind number resource ticks : ℕ) where
     step_none e = rw (known, e)
 
     module _ (st : State) (e : decoded bytes ≡ some st) (o : Outcome) (does : o ≡ stepped st (event_of kind number resource ticks)) where
-      pub step-refused
+      pub step_refused
           : is_refused o.answer ≡ true → step_export bytes kind number resource ticks ≡ record { answer = said o.answer; bytes = bytes }
       unfolding step_export
-      step-refused y = rw (known, e, ← does, y)
+      step_refused y = rw (known, e, ← does, y)
 
-      pub step-done
+      pub step_done
           : is_refused o.answer ≡ false
           → step_export bytes kind number resource ticks ≡ record { answer = said o.answer; bytes = encoded o.state bytes }
       unfolding step_export
-      step-done n = rw (known, e, ← does, n)
+      step_done n = rw (known, e, ← does, n)
 
 module _ (trace bytes : List ℕ) (r : Replayed) (e : r ≡ replayed trace (length bytes)) where
   pub replay_written : (n : ℕ) → r ≡ Written n → replay_export trace bytes ≡ record { answer = (ok, n, none); bytes = buffer_after trace bytes }

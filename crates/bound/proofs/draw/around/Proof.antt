@@ -3,7 +3,7 @@ use mathlib.Core.Path.{◌∙◌}
 use borrow.Author.Rules.{rules}
 use native.Mathlib.Omega.{arith}
 use Rattle.bound.proofs.Masks.{mask_none}
-use Rattle.bound.proofs.Drawing.{around_none, around-more}
+use Rattle.bound.proofs.Drawing.{around_none, around_more}
 use Rattle.bound.proofs.draw.around.Statement.{statement}
 use Rattle.bound.proofs.draw.around.Tie as tie
 
@@ -21,4 +21,4 @@ around_spec =
     (λ c κs. let start = c.before.before.before in start.requires.0.resource_most _ (omega arith))
     (λ c.
     let start = c.before.before.before.before in
-    around-more _ _ _ _ c.before.before.before.if1.false (omega (arith, start.requires.0.count_most)) c.with-resource.ensures))
+    around_more _ _ _ _ c.before.before.before.if1.false (omega (arith, start.requires.0.count_most)) c.with-resource.ensures))

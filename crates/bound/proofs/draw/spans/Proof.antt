@@ -2,7 +2,7 @@
 use Prim.Native.Nat.{◌≤◌, ◌-◌}
 use borrow.Author.Rules.{rules}
 use native.Mathlib.Omega.{arith}
-use Rattle.bound.proofs.Spans.{Begun, spans_none, spans-turn, spans_done}
+use Rattle.bound.proofs.Spans.{Begun, spans_none, spans_turn, spans_done}
 use Rattle.bound.proofs.draw.spans.Statement.{statement}
 use Rattle.bound.proofs.draw.spans.Tie as tie
 
@@ -49,7 +49,7 @@ spans_spec =
     let inside = upon.before.before.before in
     let at-loop = inside.before in (
       omega (arith, inside.loop-test.true),
-      spans-turn _ at-loop.loop.drawn _ at-loop.loop.i at-loop.before.requires inside.loop-test.true at-loop.loop.invariant.1 _ _ _ _
+      spans_turn _ at-loop.loop.drawn _ at-loop.loop.i at-loop.before.requires inside.loop-test.true at-loop.loop.invariant.1 _ _ _ _
           upon.on-span.ensures.0 under.before.before.widened.ensures under.in_span.ensures.0 c.widened2.ensures,
     ))
     (λ c. spans_done _ _ _ _ (omega arith) (omega arith) c.before.loop.invariant.1))

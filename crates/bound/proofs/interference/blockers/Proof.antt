@@ -9,7 +9,7 @@ use Rattle.bound.specs.declared.Sections.{Sections}
 use Rattle.bound.specs.Sets.{no_task}
 use Rattle.bound.specs.Interference.{blocker, blockers}
 use Rattle.bound.specs.Computed.{Drawn}
-use Rattle.bound.proofs.Steps.{blocker-turn}
+use Rattle.bound.proofs.Steps.{blocker_turn}
 use Rattle.bound.proofs.interference.blockers.Statement.{statement}
 use Rattle.bound.proofs.interference.blockers.Tie as tie
 
@@ -34,6 +34,6 @@ blockers_spec =
     (λ c. search rules)
     (λ c. (
       omega arith,
-      λ s d. fold_more _ _ _ _ _ (c.before.before.before.before.loop.invariant.1 s d) (blocker-turn s _ _ _ _ _ _ d (omega arith)),
+      λ s d. fold_more _ _ _ _ _ (c.before.before.before.before.loop.invariant.1 s d) (blocker_turn s _ _ _ _ _ _ d (omega arith)),
     ))
     (λ c s d. fold_done _ _ _ _ _ (omega arith) (omega (arith, d.count_is)) (c.before.loop.invariant.1 s d)))

@@ -3,7 +3,7 @@ use mathlib.Core.Path.{◌∙◌}
 use borrow.Author.Rules.{rules}
 use borrow.Author.Tests.{lt-ltb, le-ltb, eq-eqb, ne_eqb}
 use Rattle.laws.specs.Tests.{first_of}
-use Rattle.bound.proofs.Refusals.{above-tells}
+use Rattle.bound.proofs.Refusals.{above_tells}
 use Rattle.bound.proofs.table.parent_refusal.Statement.{statement}
 use Rattle.bound.proofs.table.parent_refusal.Tie as tie
 
@@ -22,4 +22,4 @@ parent_refusal_spec =
     (λ c.
     let same = c.before.before.before in
     let earlier = same.before.before.before.before.before in
-    c.refused_if_lem.ensures ∙ above-tells _ _ _ (lt-ltb _ _ earlier.if1.false) (eq-eqb _ _ same.if2.false)))
+    c.refused_if_lem.ensures ∙ above_tells _ _ _ (lt-ltb _ _ earlier.if1.false) (eq-eqb _ _ same.if2.false)))

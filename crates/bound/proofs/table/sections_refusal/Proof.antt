@@ -8,7 +8,7 @@ use Rattle.laws.specs.Loops.{fold_to}
 use Rattle.laws.proofs.Fold.{fold_none}
 use Rattle.model.specs.Verdicts.{verdict}
 use Rattle.bound.specs.Table.{section_refusal}
-use Rattle.bound.proofs.Refusals.{refusal-turn, refusals-done}
+use Rattle.bound.proofs.Refusals.{refusal_turn, refusals_done}
 use Rattle.bound.proofs.table.sections_refusal.Statement.{statement}
 use Rattle.bound.proofs.table.sections_refusal.Tie as tie
 
@@ -26,6 +26,6 @@ sections_refusal_spec =
     (λ c. search rules)
     (λ c. let at-loop = c.before.before.before in (
       omega arith,
-      refusal-turn _ _ _ _ _ at-loop.loop.invariant.1 c.before.section-refusal.ensures c.or_else.ensures,
+      refusal_turn _ _ _ _ _ at-loop.loop.invariant.1 c.before.section-refusal.ensures c.or_else.ensures,
     ))
-    (λ c. refusals-done _ _ _ _ (omega arith) (omega arith) c.before.loop.invariant.1))
+    (λ c. refusals_done _ _ _ _ (omega arith) (omega arith) c.before.loop.invariant.1))

@@ -2,7 +2,7 @@
 use mathlib.Core.Path.{◌∙◌}
 use borrow.Author.Rules.{rules}
 use borrow.Author.Tests.{not-true, not-false}
-use Rattle.bound.proofs.Refusals.{counts_tell, counts_most, sections-tell}
+use Rattle.bound.proofs.Refusals.{counts_tell, counts_most, sections_tell}
 use Rattle.bound.proofs.table.table_refusal.Statement.{statement}
 use Rattle.bound.proofs.table.table_refusal.Tie as tie
 
@@ -19,4 +19,4 @@ table_refusal_spec =
     let late = c.before in
     let each = late.before in
     let found = each.before in
-    c.or_else.ensures ∙ sections-tell _ _ _ _ (not-false _ found.before.if1.false) found.sections-refusal.ensures each.all-children-fit.ensures late.refused_if_lem.ensures))
+    c.or_else.ensures ∙ sections_tell _ _ _ _ (not-false _ found.before.if1.false) found.sections-refusal.ensures each.all-children-fit.ensures late.refused_if_lem.ensures))

@@ -3,7 +3,7 @@ use Prim.Native.Nat.{◌+◌, ◌-◌, ◌≤◌}
 use native.Mathlib.Omega.{arith}
 use lib.ListN.{length, take}
 use Rattle.bytes.specs.Writing.{Wrote}
-use Rattle.bytes.proofs.Writing.{wrote_start, wrote-more, wrote_all}
+use Rattle.bytes.proofs.Writing.{wrote_start, wrote_more, wrote_all}
 use Rattle.bytes.proofs.text.put_text.Statement.{statement}
 use Rattle.bytes.proofs.text.put_text.Tie as tie
 
@@ -15,7 +15,7 @@ put_text_spec =
     (λ out₀ at text i₀ out i. length text - i)
     (λ c. (omega arith, wrote_start _ _))
     (λ c. omega arith) (λ c. omega arith) (λ c. omega arith) (λ c. omega arith) (λ c. omega arith)
-    (λ c. (omega arith, wrote-more _ _ c.before.loop-test.true c.before.before.loop.invariant.1))
+    (λ c. (omega arith, wrote_more _ _ c.before.loop-test.true c.before.before.loop.invariant.1))
     (λ c. omega arith)
     (λ c. c.before.loop.invariant.1.kept)
     (λ c. wrote_all _ _ c.before.loop.invariant.0 c.loop-test.false c.before.loop.invariant.1))

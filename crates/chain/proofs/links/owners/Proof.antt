@@ -5,10 +5,10 @@ use Prim.Native.Nat.{◌-◌}
 use borrow.Author.Rules.{rules}
 use native.Mathlib.Omega.{arith}
 use lib.ListN.{replicate}
-use Rattle.laws.proofs.Making.{Making, making_none, making_more, making-blank, making_done}
+use Rattle.laws.proofs.Making.{Making, making_none, making_more, making_blank, making_done}
 use Rattle.model.specs.State.{present, owner_of}
 use Rattle.chain.specs.Arrays.{task_of, tasks_of, owners_of}
-use Rattle.chain.proofs.Arrays.{owner-read, owner_none}
+use Rattle.chain.proofs.Arrays.{owner_read, owner_none}
 use Rattle.chain.proofs.links.owners.Statement.{statement}
 use Rattle.chain.proofs.links.owners.Tie as tie
 
@@ -26,7 +26,7 @@ owners_spec =
     let turn = c.before.before in
     let test = sym c.before.in_use.ensures in
     ⊎_elim
-    (λ w. making_more turn.loop-test.true w.3 (owner-read _ _ _ (test ∙ w.0.taken) w.2.ensures) turn.before.loop.invariant)
-    (λ w. making-blank _ turn.loop-test.true w.1 (owner_none _ _ (test ∙ w.0.left)) turn.before.loop.invariant)
+    (λ w. making_more turn.loop-test.true w.3 (owner_read _ _ _ (test ∙ w.0.taken) w.2.ensures) turn.before.loop.invariant)
+    (λ w. making_blank _ turn.loop-test.true w.1 (owner_none _ _ (test ∙ w.0.left)) turn.before.loop.invariant)
     c.if1.branch)
     (λ c. making_done c.loop-test.false c.before.loop.invariant))

@@ -6,7 +6,7 @@ use borrow.Author.Rules.{rules}
 use native.Mathlib.Omega.{arith}
 use lib.ListN.{replicate}
 use Rattle.laws.proofs.Cases.{if_yes, if_no}
-use Rattle.laws.proofs.Making.{Making, making_none, making_more, making-blank, making_done}
+use Rattle.laws.proofs.Making.{Making, making_none, making_more, making_blank, making_done}
 use Rattle.model.specs.State.{here}
 use Rattle.chain.specs.Arrays.{array_of, wanted, wanted_of}
 use Rattle.chain.proofs.links.wanted.Statement.{statement}
@@ -27,6 +27,6 @@ wanted_spec =
     let test = sym c.before.in_use.ensures in
     ⊎_elim
     (λ w. making_more turn.loop-test.true w.3 (w.2.ensures ∙ sym (if_yes _ _ _ (test ∙ w.0.taken))) turn.before.loop.invariant)
-    (λ w. making-blank _ turn.loop-test.true w.1 (if_no _ _ _ (test ∙ w.0.left)) turn.before.loop.invariant)
+    (λ w. making_blank _ turn.loop-test.true w.1 (if_no _ _ _ (test ∙ w.0.left)) turn.before.loop.invariant)
     c.if1.branch)
     (λ c. making_done c.loop-test.false c.before.loop.invariant))

@@ -6,7 +6,7 @@ use borrow.Author.Rules.{rules}
 use native.Mathlib.Omega.{arith}
 use lib.ListN.{replicate}
 use Rattle.laws.proofs.Cases.{if_yes, if_no}
-use Rattle.laws.proofs.Making.{Making, making_none, making_more, making-blank, making_done}
+use Rattle.laws.proofs.Making.{Making, making_none, making_more, making_blank, making_done}
 use Rattle.chain.specs.Arrays.{budget_in, budgets_of}
 use Rattle.chain.proofs.servers.budgets.Statement.{statement}
 use Rattle.chain.proofs.servers.budgets.Tie as tie
@@ -26,6 +26,6 @@ budgets_spec =
     let test = sym c.before.in_use.ensures in
     ⊎_elim
     (λ w. making_more turn.loop-test.true w.2 (sym (if_yes _ _ _ (test ∙ w.0.taken))) turn.before.loop.invariant)
-    (λ w. making-blank _ turn.loop-test.true w.1 (if_no _ _ _ (test ∙ w.0.left)) turn.before.loop.invariant)
+    (λ w. making_blank _ turn.loop-test.true w.1 (if_no _ _ _ (test ∙ w.0.left)) turn.before.loop.invariant)
     c.if1.branch)
     (λ c. making_done c.loop-test.false c.before.loop.invariant))

@@ -5,7 +5,7 @@ use Prim.Native.Nat.{◌-◌}
 use borrow.Author.Rules.{rules}
 use native.Mathlib.Omega.{arith}
 use lib.ListN.{replicate}
-use Rattle.laws.proofs.Making.{Making, making_none, making_more, making-blank, making_done}
+use Rattle.laws.proofs.Making.{Making, making_none, making_more, making_blank, making_done}
 use Rattle.chain.specs.Arrays.{task_of, tasks_of, on_at, on_by}
 use Rattle.chain.proofs.Arrays.{on_read, on_none}
 use Rattle.chain.proofs.servers.running_for.Statement.{statement}
@@ -27,6 +27,6 @@ running_for_spec =
     let test = sym c.before.in_use.ensures in
     ⊎_elim
     (λ w. making_more turn.loop-test.true w.5 (on_read _ _ _ _ _ _ (test ∙ w.0.taken) w.3.ensures w.4.ensures) turn.before.loop.invariant)
-    (λ w. making-blank _ turn.loop-test.true w.1 (on_none _ _ _ _ (test ∙ w.0.left)) turn.before.loop.invariant)
+    (λ w. making_blank _ turn.loop-test.true w.1 (on_none _ _ _ _ (test ∙ w.0.left)) turn.before.loop.invariant)
     c.if1.branch)
     (λ c. making_done c.loop-test.false c.before.loop.invariant))

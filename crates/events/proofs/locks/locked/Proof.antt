@@ -4,7 +4,7 @@ use mathlib.Core.Path.{refl, sym, ◌∙◌}
 use Rattle.chain.proofs.Arrays.{end_served, end_below}
 use Rattle.events.proofs.Clear.{lock_below, lock_present, lock_room, lock_queue}
 use Rattle.events.proofs.Refusals.{told_no, told_yes}
-use Rattle.events.proofs.Changes.{granted-does, queued-does, rested_no, rested_yes}
+use Rattle.events.proofs.Changes.{granted_does, queued_does, rested_no, rested_yes}
 use Rattle.events.proofs.locks.locked.Statement.{statement}
 use Rattle.events.proofs.locks.locked.Tie as tie
 
@@ -29,7 +29,7 @@ locked_spec =
     (λ c.
     let granted = c.before.before.before in
     let acts = granted.before.before in
-    granted-does _ _ _ _ acts.executor_in_lem.ensures _ _ _ (told_no granted.before.is_owned.ensures granted.if1.true) c.before.before.pushed.ensures c.before.with_owner_lem.ensures c.chain_ends.ensures)
+    granted_does _ _ _ _ acts.executor_in_lem.ensures _ _ _ (told_no granted.before.is_owned.ensures granted.if1.true) c.before.before.pushed.ensures c.before.with_owner_lem.ensures c.chain_ends.ensures)
     (λ c κs. search rules)
     (λ c. search rules)
     (λ c. lock_below _ _ _ c.before.before.before.before.before.before.before.requires)
@@ -55,7 +55,7 @@ locked_spec =
     let taken = queue.before.before in
     let acts = taken.before.before in
     let below = lock_below _ _ _ acts.before.before.before.before.requires in
-    queued-does _ _ _ _ acts.executor_in_lem.ensures _ _ _ _ _ below (told_yes taken.before.is_owned.ensures taken.if1.false) queue.before.with_mode.ensures queue.enqueued.ensures ended.chain-ends2.ensures refl
+    queued_does _ _ _ _ acts.executor_in_lem.ensures _ _ _ _ _ below (told_yes taken.before.is_owned.ensures taken.if1.false) queue.before.with_mode.ensures queue.enqueued.ensures ended.chain-ends2.ensures refl
     (rested_yes _ _ _ (end_served _ _ _ ended.chain-ends2.ensures below) _ (sym rests.before.is_suspended.ensures ∙ rests.if2.true) c.before.turned-servers.ensures))
     (λ c.
     let ended = c.before.before.before.before.before in
@@ -63,5 +63,5 @@ locked_spec =
     let taken = queue.before.before in
     let acts = taken.before.before in
     let below = lock_below _ _ _ acts.before.before.before.before.requires in
-    queued-does _ _ _ _ acts.executor_in_lem.ensures _ _ _ _ _ below (told_yes taken.before.is_owned.ensures taken.if1.false) queue.before.with_mode.ensures queue.enqueued.ensures ended.chain-ends2.ensures refl
+    queued_does _ _ _ _ acts.executor_in_lem.ensures _ _ _ _ _ below (told_yes taken.before.is_owned.ensures taken.if1.false) queue.before.with_mode.ensures queue.enqueued.ensures ended.chain-ends2.ensures refl
     (rested_no _ _ _ (end_served _ _ _ ended.chain-ends2.ensures below) (sym c.before.is_suspended.ensures ∙ c.if2.false))))

@@ -3,7 +3,7 @@ use borrow.Author.Rules.{rules}
 use mathlib.Core.Path.{refl}
 use native.Mathlib.Omega.{arith}
 use Rattle.events.proofs.Clear.{unlock_below, unlock_present, unlock_stack, unlock_queue, heir_below, heir_room}
-use Rattle.events.proofs.Changes.{freed-does, passed-does}
+use Rattle.events.proofs.Changes.{freed_does, passed_does}
 use Rattle.events.proofs.locks.unlocked.Statement.{statement}
 use Rattle.events.proofs.locks.unlocked.Tie as tie
 
@@ -27,7 +27,7 @@ unlocked_spec =
     (λ c.
     let freed = c.before.before in
     let popped = freed.before.before in
-    freed-does _ _ _ _ popped.before.executor_in_lem.ensures _ _ _ freed.if1.true popped.popped.ensures c.before.with_owner_lem.ensures c.chain_ends.ensures)
+    freed_does _ _ _ _ popped.before.executor_in_lem.ensures _ _ _ freed.if1.true popped.popped.ensures c.before.with_owner_lem.ensures c.chain_ends.ensures)
     (λ c. search rules)
     (λ c. search rules)
     (λ c. search rules)
@@ -58,4 +58,4 @@ unlocked_spec =
     let stacks = owner.before.before in
     let waits = stacks.before.before.before.before.before.before in
     let popped = waits.before.before in
-    passed-does _ _ _ _ _ _ _ _ _ _ _ popped.before.executor_in_lem.ensures (omega (arith, waits.if1.false)) refl popped.popped.ensures stacks.before.with_mode.ensures stacks.pushed.ensures owner.before.dequeued.ensures owner.with-owner2.ensures c.chain-ends2.ensures))
+    passed_does _ _ _ _ _ _ _ _ _ _ _ popped.before.executor_in_lem.ensures (omega (arith, waits.if1.false)) refl popped.popped.ensures stacks.before.with_mode.ensures stacks.pushed.ensures owner.before.dequeued.ensures owner.with-owner2.ensures c.chain-ends2.ensures))

@@ -3,7 +3,7 @@ use borrow.Author.Rules.{rules}
 use native.Mathlib.Omega.{arith}
 use Rattle.model.specs.declared.Event.TheVariants.{Elapse}
 use Rattle.events.proofs.Clear.{clear_grounds, elapse_affords}
-use Rattle.events.proofs.Changes.{elapsed-does}
+use Rattle.events.proofs.Changes.{elapsed_does}
 use Rattle.events.proofs.servers.elapsed.Statement.{statement}
 use Rattle.events.proofs.servers.elapsed.Tie as tie
 
@@ -21,4 +21,4 @@ elapsed_spec =
     (pre.is_sound, (clear_grounds _ (Elapse _) pre).1))
     (λ c.
     let spent = c.before.before in
-    elapsed-does _ _ _ _ _ spent.before.chain_ends.ensures spent.spent-servers.ensures c.ticked-tasks.ensures))
+    elapsed_does _ _ _ _ _ spent.before.chain_ends.ensures spent.spent-servers.ensures c.ticked-tasks.ensures))

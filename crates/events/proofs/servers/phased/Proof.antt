@@ -2,7 +2,7 @@
 use borrow.Author.Rules.{rules}
 use Rattle.model.proofs.Chain.{here_below}
 use Rattle.chain.proofs.Arrays.{end_below}
-use Rattle.events.proofs.Changes.{phased-does}
+use Rattle.events.proofs.Changes.{phased_does}
 use Rattle.events.proofs.servers.phased.Statement.{statement}
 use Rattle.events.proofs.servers.phased.Tie as tie
 
@@ -29,4 +29,4 @@ phased_spec =
     (λ c.
     let phase = c.before.before.before in
     let ended = phase.before.before.before.before.before.before in
-    phased-does _ _ _ _ _ _ _ (here_below _ _ ended.before.before.requires) ended.chain_ends.ensures phase.before.executor_in_lem.ensures c.one_if.ensures phase.with_phase_lem.ensures))
+    phased_does _ _ _ _ _ _ _ (here_below _ _ ended.before.before.requires) ended.chain_ends.ensures phase.before.executor_in_lem.ensures c.one_if.ensures phase.with_phase_lem.ensures))

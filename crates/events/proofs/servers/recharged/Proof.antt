@@ -4,7 +4,7 @@ use Rattle.model.specs.declared.Event.TheVariants.{Recharge}
 use Rattle.model.proofs.Chain.{here_below}
 use Rattle.chain.proofs.Arrays.{end_below}
 use Rattle.events.proofs.Clear.{clear_grounds, deadline_fits_lem}
-use Rattle.events.proofs.Changes.{recharged-does}
+use Rattle.events.proofs.Changes.{recharged_does}
 use Rattle.events.proofs.servers.recharged.Statement.{statement}
 use Rattle.events.proofs.servers.recharged.Tie as tie
 
@@ -36,4 +36,4 @@ recharged_spec =
     (λ c.
     let filled = c.before.before.before in
     let ended = filled.before.before.before.before.before.before in
-    recharged-does _ _ _ _ _ _ _ (here_below _ _ (clear_grounds _ (Recharge _) ended.before.before.requires).0) ended.chain_ends.ensures filled.before.recharged-phase.ensures filled.refilled.ensures c.before.is_active.ensures c.one_if.ensures))
+    recharged_does _ _ _ _ _ _ _ (here_below _ _ (clear_grounds _ (Recharge _) ended.before.before.requires).0) ended.chain_ends.ensures filled.before.recharged-phase.ensures filled.refilled.ensures c.before.is_active.ensures c.one_if.ensures))

@@ -2,7 +2,7 @@
 use borrow.Author.Rules.{rules}
 use Rattle.model.proofs.Chain.{here_below}
 use Rattle.events.proofs.Clear.{turn_here, turn_timely}
-use Rattle.events.proofs.Changes.{turned-does}
+use Rattle.events.proofs.Changes.{turned_does}
 use Rattle.events.proofs.servers.turned.Statement.{statement}
 use Rattle.events.proofs.servers.turned.Tie as tie
 
@@ -22,4 +22,4 @@ turned_spec =
     (λ c.
     let modes = c.before in
     let turned = modes.before.before.before in
-    turned-does turned.before.before.before.args.turn _ _ _ _ _ _ turned.before.before.before.requires turned.before.chain_ends.ensures turned.turned-servers.ensures modes.mode-after.ensures c.with_mode.ensures))
+    turned_does turned.before.before.before.args.turn _ _ _ _ _ _ turned.before.before.before.requires turned.before.chain_ends.ensures turned.turned-servers.ensures modes.mode-after.ensures c.with_mode.ensures))

@@ -9,7 +9,7 @@ use Rattle.laws.proofs.All.{all_none}
 use Rattle.model.specs.State.{here}
 use Rattle.model.specs.Sound.{if_here, each}
 use Rattle.model.specs.Step.{affords}
-use Rattle.events.proofs.Ticks.{all_turn, all_skip, all_ends, affords-here, affords_past}
+use Rattle.events.proofs.Ticks.{all_turn, all_skip, all_ends, affords_here, affords_past}
 use Rattle.events.proofs.spending.all_afford.Statement.{statement}
 use Rattle.events.proofs.spending.all_afford.Tie as tie
 
@@ -32,7 +32,7 @@ all_afford_spec =
     let loop = c.before.before.before.loop in
     let used = sym c.before.in_use.ensures in
     ⊎_elim
-    (λ w. (omega arith, w.4 ∙ w.3.ensures ∙ all_turn _ _ _ _ (affords-here _ _ _ _ (used ∙ w.0.taken) w.2.ensures) loop.invariant.1))
+    (λ w. (omega arith, w.4 ∙ w.3.ensures ∙ all_turn _ _ _ _ (affords_here _ _ _ _ (used ∙ w.0.taken) w.2.ensures) loop.invariant.1))
     (λ w. (omega arith, w.1 ∙ all_skip _ _ _ (affords_past _ _ _ (used ∙ w.0.left)) loop.invariant.1))
     c.if1.branch)
     (λ c. all_ends _ _ _ _ c.before.loop.invariant.0 c.loop-test.false c.before.loop.invariant.1))

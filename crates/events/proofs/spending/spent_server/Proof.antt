@@ -2,7 +2,7 @@
 use mathlib.Core.Path.{sym, ◌∙◌}
 use borrow.Author.Rules.{rules}
 use native.Mathlib.Omega.{arith}
-use Rattle.events.proofs.Ticks.{spent-does}
+use Rattle.events.proofs.Ticks.{spent_does}
 use Rattle.events.proofs.spending.spent_server.Statement.{statement}
 use Rattle.events.proofs.spending.spent_server.Tie as tie
 
@@ -36,7 +36,7 @@ spent_server_spec =
     let executing = lending.before.before in
     let budgeting = executing.before.before in
     let args = budgeting.before.before.args in
-    spent-does _ _ args.executes args.home _ _ _ _ _ _ _ _ _ _
+    spent_does _ _ args.executes args.home _ _ _ _ _ _ _ _ _ _
     budgeting.before.is_running.ensures
     phasing.before.runs-out.ensures
     phasing.phase-after.ensures

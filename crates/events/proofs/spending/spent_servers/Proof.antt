@@ -9,7 +9,7 @@ use Rattle.model.specs.State.{here}
 use Rattle.model.specs.Events.{runs_out, spent_server}
 use Rattle.chain.proofs.Arrays.{end_served, end_below}
 use Rattle.events.proofs.Turns.{Counting, counting_none, counting_more, counting_skip, counting_done, executes_here}
-use Rattle.events.proofs.Ticks.{out_here, out_past, spent-here, lasts, accounts_fit_lem}
+use Rattle.events.proofs.Ticks.{out_here, out_past, spent_here, lasts, accounts_fit_lem}
 use Rattle.events.proofs.spending.spent_servers.Statement.{statement}
 use Rattle.events.proofs.spending.spent_servers.Tie as tie
 
@@ -50,7 +50,7 @@ spent_servers_spec =
     (λ w.
     let here = used ∙ w.0.taken in
     let executing = w.8.ensures ∙ executes_here _ _ _ _ _ here end w.6.ensures w.5.ensures in
-    counting_more below at-loop.loop.invariant here w.13 (spent-here _ _ _ _ _ _ here end executing w.10.ensures) w.14 w.12.ensures (out_here _ _ _ _ here w.11.ensures))
+    counting_more below at-loop.loop.invariant here w.13 (spent_here _ _ _ _ _ _ here end executing w.10.ensures) w.14 w.12.ensures (out_here _ _ _ _ here w.11.ensures))
     (λ w. counting_skip below at-loop.loop.invariant (used ∙ w.0.left) w.1 w.2 (out_past _ _ _ (used ∙ w.0.left)))
     c.if1.branch)
     (λ c. counting_done c.loop-test.false c.before.loop.invariant))

@@ -8,7 +8,7 @@ use Rattle.laws.proofs.Count.{bit_le}
 use Rattle.model.specs.State.{here}
 use Rattle.chain.proofs.Arrays.{end_served}
 use Rattle.events.specs.Computed.{turns, turned_server}
-use Rattle.events.proofs.Turns.{Counting, counting_none, counting_more, counting_skip, counting_done, turns-here, turns_past, turned-here}
+use Rattle.events.proofs.Turns.{Counting, counting_none, counting_more, counting_skip, counting_done, turns_here, turns_past, turned_here}
 use Rattle.events.proofs.turning.turned_servers.Statement.{statement}
 use Rattle.events.proofs.turning.turned_servers.Tie as tie
 
@@ -38,8 +38,8 @@ turned_servers_spec =
     ⊎_elim
     (λ w.
     let here = used ∙ w.0.taken in
-    let turning = turns-here _ _ _ _ _ _ _ here w.3.ensures (end_served _ _ _ at-loop.before.before.requires.0 below) w.6.ensures in
-    counting_more below at-loop.loop.invariant here w.9 (turned-here _ _ _ _ _ _ turning w.7.ensures) w.10 w.8.ensures turning)
+    let turning = turns_here _ _ _ _ _ _ _ here w.3.ensures (end_served _ _ _ at-loop.before.before.requires.0 below) w.6.ensures in
+    counting_more below at-loop.loop.invariant here w.9 (turned_here _ _ _ _ _ _ turning w.7.ensures) w.10 w.8.ensures turning)
     (λ w. counting_skip below at-loop.loop.invariant (used ∙ w.0.left) w.1 w.2 (turns_past _ _ _ _ (used ∙ w.0.left)))
     c.if1.branch)
     (λ c. counting_done c.loop-test.false c.before.loop.invariant))

@@ -7,7 +7,7 @@ use borrow.Author.Tests.{lt-ltb, le-ltb}
 use native.Mathlib.Omega.{arith}
 use lib.ListN.{replicate}
 use Rattle.laws.proofs.Cases.{if_yes, if_no}
-use Rattle.laws.proofs.Making.{Making, making_none, making_more, making-blank, making_done}
+use Rattle.laws.proofs.Making.{Making, making_none, making_more, making_blank, making_done}
 use Rattle.model.specs.Fresh.{blank_server, blank_task, fresh_server_at, fresh_task_at, fresh_state}
 use Rattle.fresh.proofs.start.fresh_state.Statement.{statement}
 use Rattle.fresh.proofs.start.fresh_state.Tie as tie
@@ -37,7 +37,7 @@ fresh_state_spec =
     ))
     (λ w.
     let past = le-ltb _ _ w.0.left in
-    (making-blank _ below w.1 (if_no _ _ _ past) so_far.0, making-blank _ below w.2 (if_no _ _ _ past) so_far.1))
+    (making_blank _ below w.1 (if_no _ _ _ past) so_far.0, making_blank _ below w.2 (if_no _ _ _ past) so_far.1))
     c.if1.branch)
     (λ c i.
     let tb = c.before.before.before.before.before.before.args.t1 in

@@ -6,7 +6,7 @@ use borrow.Author.Rules.{rules}
 use borrow.Author.Tests.{not-true, not-false}
 use native.Mathlib.Omega.{arith}
 use Rattle.fresh.specs.Start.{answer_of}
-use Rattle.fresh.proofs.Answers.{refusal_to, answer_none, answer-more, answer_skip, answer-done, counts_told, counts_resources}
+use Rattle.fresh.proofs.Answers.{refusal_to, answer_none, answer_more, answer_skip, answer_done, counts_told, counts_resources}
 use Rattle.fresh.proofs.start.table_answer.Statement.{statement}
 use Rattle.fresh.proofs.start.table_answer.Tie as tie
 
@@ -28,12 +28,12 @@ table_answer_spec =
     (λ c.
     let loop = c.before.before.loop in
     ⊎_elim
-    (λ w. (omega arith, answer-more _ _ _ _ _ w.0.taken loop.invariant.1 w.2.ensures (w.4 ∙ w.3.ensures)))
+    (λ w. (omega arith, answer_more _ _ _ _ _ w.0.taken loop.invariant.1 w.2.ensures (w.4 ∙ w.3.ensures)))
     (λ w. (omega arith, w.1 ∙ answer_skip _ _ _ w.0.left loop.invariant.1))
     c.if2.branch)
     (λ c.
     let tested = c.before.before in
-    answer-done
+    answer_done
     tested.before.before.args.t1
     _
     _

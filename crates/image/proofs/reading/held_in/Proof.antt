@@ -7,7 +7,7 @@ use Rattle.laws.specs.Loops.{set_to}
 use Rattle.laws.proofs.Set.{set_none, set_more}
 use Rattle.bytes.specs.Numbers.{two_bytes}
 use Rattle.image.specs.Decoded.{entry_in}
-use Rattle.image.proofs.Image.{entries-read}
+use Rattle.image.proofs.Image.{entries_read}
 use Rattle.image.proofs.reading.held_in.Statement.{statement}
 use Rattle.image.proofs.reading.held_in.Tie as tie
 
@@ -22,4 +22,4 @@ held_in_spec =
     (λ c. omega arith) (λ c. omega arith) (λ c κs. omega arith) (λ c. omega arith) (λ c. omega arith) (λ c. omega arith)
     (λ c. omega arith)
     (λ c. (omega arith, set_more _ _ _ _ _ c.two_bytes.ensures c.before.before.loop.invariant.1))
-    (λ c. entries-read _ _ _ _ _ _ _ _ _ _ c.before.loop.invariant.0 c.loop-test.false refl refl c.before.loop.invariant.1))
+    (λ c. entries_read _ _ _ _ _ _ _ _ _ _ c.before.loop.invariant.0 c.loop-test.false refl refl c.before.loop.invariant.1))

@@ -7,7 +7,7 @@ use Rattle.laws.specs.Loops.{set_to}
 use Rattle.laws.proofs.Set.{set_none, set_more}
 use Rattle.image.specs.Encoded.{no_task_no}
 use Rattle.image.specs.Decoded.{entry_in, task_no_in}
-use Rattle.image.proofs.Image.{entries-read}
+use Rattle.image.proofs.Image.{entries_read}
 use Rattle.image.proofs.reading.queue_in.Statement.{statement}
 use Rattle.image.proofs.reading.queue_in.Tie as tie
 
@@ -22,4 +22,4 @@ queue_in_spec =
     (λ c. omega arith) (λ c. omega arith) (λ c κs. omega arith) (λ c. omega arith) (λ c. omega arith) (λ c. omega arith)
     (λ c. omega arith)
     (λ c. (omega arith, set_more _ _ _ _ _ (λ j. record { 0 = c.two_bytes.ensures j }) c.before.before.loop.invariant.1))
-    (λ c. entries-read _ _ _ _ _ _ _ _ _ _ c.before.loop.invariant.0 c.loop-test.false refl refl c.before.loop.invariant.1))
+    (λ c. entries_read _ _ _ _ _ _ _ _ _ _ c.before.loop.invariant.0 c.loop-test.false refl refl c.before.loop.invariant.1))

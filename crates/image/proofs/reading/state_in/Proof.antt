@@ -7,7 +7,7 @@ use Rattle.laws.specs.Loops.{set_to}
 use Rattle.laws.proofs.Set.{set_none, set_more}
 use Rattle.image.specs.Layout.{used}
 use Rattle.image.specs.Decoded.{entry_in, server_in, task_in, resource_in, state_in}
-use Rattle.image.proofs.Image.{entries-read}
+use Rattle.image.proofs.Image.{entries_read}
 use Rattle.image.proofs.reading.state_in.Statement.{statement}
 use Rattle.image.proofs.reading.state_in.Tie as tie
 
@@ -56,9 +56,9 @@ state_in_spec =
     let inv2 = second.loop2.invariant in
     let nothing = blank.unusable_state.ensures in
     let done = ended.loop-test.false in
-    let servers = entries-read server_in 29 _ _ 10 _ _ _ _ _ inv.0 done all-tasks (ap (λ st. st.server) nothing) inv.2 in
-    let read-tasks = entries-read task_in 46 _ _ 474 _ _ _ _ _ inv.0 done all-tasks (ap (λ st. st.task) nothing) inv.3 in
-    let read-resources = entries-read resource_in 37 _ _ 1210 _ _ _ _ _ inv2.0 c.loop2-test.false all-resources (ap (λ st. st.resource) nothing) inv2.2 in
+    let servers = entries_read server_in 29 _ _ 10 _ _ _ _ _ inv.0 done all-tasks (ap (λ st. st.server) nothing) inv.2 in
+    let read-tasks = entries_read task_in 46 _ _ 474 _ _ _ _ _ inv.0 done all-tasks (ap (λ st. st.task) nothing) inv.3 in
+    let read-resources = entries_read resource_in 37 _ _ 1210 _ _ _ _ _ inv2.0 c.loop2-test.false all-resources (ap (λ st. st.resource) nothing) inv2.2 in
     λ j. record {
       processors = tasks.before.two_bytes.ensures j;
       tasks = tasks.two-bytes2.ensures j;

@@ -9,7 +9,7 @@ use lib.ListN.{length}
 use Rattle.model.specs.State.{no_server, no_task, no_resource}
 use Rattle.image.specs.Encoded.{entries, entry_bytes, server_bytes, task_bytes, resource_bytes, header_bytes}
 use Rattle.image.proofs.Parts.{server_codec, task_codec, resource_codec}
-use Rattle.image.proofs.Image.{write-whole, write_none}
+use Rattle.image.proofs.Image.{write_whole, write_none}
 use Rattle.bytes.proofs.Codec.{two_long, four_long}
 use Rattle.bytes.proofs.Parts.{first, next, Filled, filled_none, Filled-more, filled_done}
 use Rattle.image.proofs.writing.write.Statement.{statement}
@@ -86,7 +86,7 @@ write_spec =
     let w2 = next w1 _ _ resources.put-two3.ensures (two_long _) refl in
     let w3 = next w2 _ _ clock.put_four.ensures (four_long _) refl in (
       sym (eq-eqb _ _ sized),
-      write-whole _ _ _ _ tasks-used.used.ensures resources-used.used2.ensures sized w3.done
+      write_whole _ _ _ _ tasks-used.used.ensures resources-used.used2.ensures sized w3.done
           (filled_done first-loop.loop.invariant.2 first_ended.loop-test.false)
           (filled_done second.loop2.invariant.2 second_ended.loop2-test.false)
           (filled_done third.loop3.invariant.2 c.loop3-test.false),

@@ -3,7 +3,7 @@ use mathlib.Core.Path.{◌∙◌}
 use borrow.Author.Rules.{rules}
 use native.Mathlib.Omega.{arith}
 use Rattle.bytes.specs.Text.{bytes}
-use Rattle.bytes.proofs.Writing.{wrote_then, wrote-pair}
+use Rattle.bytes.proofs.Writing.{wrote_then, wrote_pair}
 use Rattle.listing.specs.Text.{newline}
 use Rattle.listing.proofs.closing.put_server.Statement.{statement}
 use Rattle.listing.proofs.closing.put_server.Tie as tie
@@ -43,7 +43,7 @@ returned c =
     let budget = accounts.before.before.before.before.before.before in
     let state = budget.before.before.before.before.before.before in
     wrote_then
-    (wrote_then (wrote-pair _ _ _ (wrote-pair _ _ _ state.put-state.ensures budget.put-pair.ensures) accounts.put-pair2.ensures) spin.put-field.ensures)
+    (wrote_then (wrote_pair _ _ _ (wrote_pair _ _ _ state.put-state.ensures budget.put-pair.ensures) accounts.put-pair2.ensures) spin.put-field.ensures)
     line-end.put-text.ensures
 
 pub put_server_spec : {M : Type 1} → statement M

@@ -9,9 +9,9 @@ use Rattle.trace.specs.Order.{counted_table}
 use Rattle.trace.proofs.Items.{read_moves}
 use Rattle.listing.specs.Text.{short_line_most, event_line_most, end_lines_most}
 use Rattle.listing.specs.Replay.{room}
-use Rattle.listing.proofs.Texts.{text_end, text_fault, text-refused}
+use Rattle.listing.proofs.Texts.{text_end, text_fault, text_refused}
 use Rattle.listing.proofs.Otherwise.{neither, not_event}
-use Rattle.listing.proofs.SoFar.{SoFar, so_far_start, so-far-turn, so_far_room, so-far-end}
+use Rattle.listing.proofs.SoFar.{SoFar, so_far_start, so_far_turn, so_far_room, so_far_end}
 use Rattle.listing.proofs.events.put_from_events.Statement.{statement}
 use Rattle.listing.proofs.events.put_from_events.Tie as tie
 
@@ -47,7 +47,7 @@ ended c =
     let call = c.before.before in
     let other = call.before.before in
     let read = other.before.before in
-    so-far-end read.before.loop.invariant _ (omega arith)
+    so_far_end read.before.loop.invariant _ (omega arith)
     (text_end _ _ _ (sym read.read.ensures ∙ neither read.read.result other.before.match.keys2 other.match2.keys2))
     call.put-end.ensures
 
@@ -56,7 +56,7 @@ faulty c =
     let call = c.before.before in
     let told = call.before.before.before in
     let read = told.before.before.before in
-    so-far-end read.before.loop.invariant _ (omega arith)
+    so_far_end read.before.loop.invariant _ (omega arith)
     (text_fault _ _ _ _ (sym read.read.ensures ∙ told.read3.given.1))
     call.put-stop.ensures
 
@@ -66,8 +66,8 @@ wrong c =
     let other = call.before.before in
     let told = other.before.before in
     let read = told.before.before in
-    so-far-end read.before.loop.invariant _ (omega arith)
-    (text-refused _ _ _ _ _ _ (sym read.read.ensures ∙ told.read2.given.1) (not_event (counted_table 0 0 0) told.read2.given.0.0 other.match3.keys2))
+    so_far_end read.before.loop.invariant _ (omega arith)
+    (text_refused _ _ _ _ _ _ (sym read.read.ensures ∙ told.read2.given.1) (not_event (counted_table 0 0 0) told.read2.given.0.0 other.match3.keys2))
     call.put-stop2.ensures
 
 -- an event: the count fits, the place moves on, and the text so far has its line
@@ -88,7 +88,7 @@ kept c =
     let happening = stepped.before.before in
     let told = happening.before.before.before in
     let read = told.before.before in
-    so-far-turn read.before.loop.invariant _ _ _
+    so_far_turn read.before.loop.invariant _ _ _
     (sym read.read.ensures ∙ told.read2.given.1 ∙ ap (λ r. Got r told.read2.given.0.1.0) happening.«record».given.1)
     stepped.attempted.ensures call.put-event.ensures
 

@@ -8,7 +8,7 @@ use Rattle.trace.specs.declared.Read.TheVariants.{Got}
 use Rattle.listing.specs.Replay.{room}
 use Rattle.listing.specs.Computed.{text_from, running}
 use Rattle.bytes.proofs.Writing.{wrote_as}
-use Rattle.listing.proofs.Stages.{Begun, begun_none, begun_most, begun-unread, begun-wrong, begun-refused, begun_made, Begun-more, begun_accepted, begun_sound, begun-done}
+use Rattle.listing.proofs.Stages.{Begun, begun_none, begun_most, begun_unread, begun_wrong, begun_refused, begun_made, Begun-more, begun_accepted, begun_sound, begun_done}
 use Rattle.listing.proofs.table.put_from_entries.Statement.{statement}
 use Rattle.listing.proofs.table.put_from_entries.Tie as tie
 
@@ -32,7 +32,7 @@ unread c =
     let read = other.before in
     let head = read.before.before in
     wrote_as (omega arith) head.loop.invariant.1
-    (begun-unread head.loop.invariant.0 read.before.loop-test.true read.read.result _ (sym read.read.ensures) other.match.keys2 call.before.unread-number.ensures)
+    (begun_unread head.loop.invariant.0 read.before.loop-test.true read.read.result _ (sym read.read.ensures) other.match.keys2 call.before.unread-number.ensures)
     call.put-stop.ensures
 
 -- a record that is no task's line
@@ -51,7 +51,7 @@ wrong c =
     let read = told.before.before in
     let head = read.before.before in
     wrote_as (omega arith) head.loop.invariant.1
-    (begun-wrong head.loop.invariant.0 read.before.loop-test.true told.read2.given.0.0 _ (sym read.read.ensures ∙ told.read2.given.1) other.match2.keys2)
+    (begun_wrong head.loop.invariant.0 read.before.loop-test.true told.read2.given.0.0 _ (sym read.read.ensures ∙ told.read2.given.1) other.match2.keys2)
     call.put-stop2.ensures
 
 -- a line that fresh refuses
@@ -73,7 +73,7 @@ refused c =
     let read = told.before.before in
     let head = read.before.before in
     wrote_as (omega arith) head.loop.invariant.1
-    (begun-refused head.loop.invariant.0 read.before.loop-test.true _ _ asked.fresh-answer.ensures _ _ _
+    (begun_refused head.loop.invariant.0 read.before.loop-test.true _ _ asked.fresh-answer.ensures _ _ _
     (sym read.read.ensures ∙ told.read2.given.1 ∙ ap (λ r. Got r told.read2.given.0.1.0) reservation.«record».given.1)
     refused.enum-told2.given.1
     call.before.refusal-number.ensures)
@@ -112,7 +112,7 @@ events_told c =
     let head = made.before.before in
     wrote_as (omega arith) head.loop.invariant.1
     (ap (λ st. text_from head.before.before.before.args.file.now (running st 0) head.loop.place.at) made.fresh-state.ensures
-    ∙ begun-done head.loop.invariant.0 made.before.loop-test.false)
+    ∙ begun_done head.loop.invariant.0 made.before.loop-test.false)
     call.put-from-events.ensures
 
 pub put_from_entries_spec : {M : Type 1} → statement M

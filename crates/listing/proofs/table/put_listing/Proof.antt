@@ -6,7 +6,7 @@ use Rattle.trace.specs.declared.Read.TheVariants.{Got}
 use Rattle.trace.proofs.Items.{read_moves}
 use Rattle.listing.specs.Replay.{room}
 use Rattle.bytes.proofs.Writing.{wrote_as}
-use Rattle.listing.proofs.Stages.{counts-unread, counts-wrong, counts_stop, counts_good, counts_text}
+use Rattle.listing.proofs.Stages.{counts_unread, counts_wrong, counts_stop, counts_good, counts_text}
 use Rattle.listing.proofs.table.put_listing.Statement.{statement}
 use Rattle.listing.proofs.table.put_listing.Tie as tie
 
@@ -22,7 +22,7 @@ unread c =
     let other = call.before.before.before in
     let read = other.before in
     wrote_as (omega arith) refl
-    (counts-unread _ read.read.result _ (sym read.read.ensures) other.match.keys2 call.before.unread-number.ensures)
+    (counts_unread _ read.read.result _ (sym read.read.ensures) other.match.keys2 call.before.unread-number.ensures)
     call.put-stop.ensures
 
 -- a record that has no counts
@@ -38,7 +38,7 @@ wrong c =
     let told = other.before.before in
     let read = told.before.before in
     wrote_as (omega arith) refl
-    (counts-wrong _ told.read2.given.0.0 _ (sym read.read.ensures ∙ told.read2.given.1) other.match2.keys2)
+    (counts_wrong _ told.read2.given.0.0 _ (sym read.read.ensures ∙ told.read2.given.1) other.match2.keys2)
     call.put-stop2.ensures
 
 -- counts that fresh refuses

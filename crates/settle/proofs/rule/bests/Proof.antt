@@ -6,7 +6,7 @@ use borrow.Author.Rules.{rules}
 use native.Mathlib.Omega.{arith}
 use Rattle.chain.specs.Arrays.{servers_of}
 use Rattle.settle.specs.Computed.{best_by}
-use Rattle.settle.proofs.Settled.{bests_none, bests-more, bests-skip, bests_done}
+use Rattle.settle.proofs.Settled.{bests_none, bests_more, bests_skip, bests_done}
 use Rattle.settle.proofs.rule.bests.Statement.{statement}
 use Rattle.settle.proofs.rule.bests.Tie as tie
 
@@ -32,8 +32,8 @@ bests_spec =
     ⊎_elim
     (λ w. (
       omega arith,
-      w.3 ∙ bests-more _ _ _ _ _ _ in-loop.loop-test.true refl w.0.taken w.2.ensures in-loop.before.loop.invariant.1,
+      w.3 ∙ bests_more _ _ _ _ _ _ in-loop.loop-test.true refl w.0.taken w.2.ensures in-loop.before.loop.invariant.1,
     ))
-    (λ w. (omega arith, w.1 ∙ bests-skip _ _ _ _ w.0.left in-loop.before.loop.invariant.1))
+    (λ w. (omega arith, w.1 ∙ bests_skip _ _ _ _ w.0.left in-loop.before.loop.invariant.1))
     c.if1.branch)
     (λ c. bests_done _ _ _ _ c.before.loop.invariant.0 c.loop-test.false c.before.loop.invariant.1))

@@ -5,7 +5,7 @@ use Prim.Native.Nat.{◌≤◌, ◌-◌}
 use borrow.Author.Rules.{rules}
 use native.Mathlib.Omega.{arith}
 use Rattle.settle.specs.Computed.{settled_to}
-use Rattle.settle.proofs.Settled.{settled_none, settled-more, settled-skip, settled-done}
+use Rattle.settle.proofs.Settled.{settled_none, settled_more, settled_skip, settled_done}
 use Rattle.settle.proofs.rule.settled.Statement.{statement}
 use Rattle.settle.proofs.rule.settled.Tie as tie
 
@@ -38,15 +38,15 @@ settled_spec =
     ⊎_elim
     (λ w. (
       omega arith,
-      w.7 ∙ settled-more _ _ _ _ _ _ _ _ _ _ (test ∙ w.0.taken) w.2.ensures w.4.ensures w.5.ensures w.6.ensures loop.invariant.1,
+      w.7 ∙ settled_more _ _ _ _ _ _ _ _ _ _ (test ∙ w.0.taken) w.2.ensures w.4.ensures w.5.ensures w.6.ensures loop.invariant.1,
     ))
-    (λ w. (omega arith, w.1 ∙ settled-skip _ _ _ _ _ _ (test ∙ w.0.left) loop.invariant.1))
+    (λ w. (omega arith, w.1 ∙ settled_skip _ _ _ _ _ _ (test ∙ w.0.left) loop.invariant.1))
     c.if1.branch)
     (λ c.
     let at-loop = c.before in
     let chosen = at-loop.before in
     let budgets = chosen.before in
-    settled-done _ _ _ _ _ _ _ _
+    settled_done _ _ _ _ _ _ _ _
     budgets.before.before.before.requires
     budgets.before.running_for_lem.ensures
     budgets.budgets.ensures

@@ -8,7 +8,7 @@ use native.Mathlib.Omega.{arith}
 use Rattle.laws.specs.Loops.{all_to}
 use Rattle.laws.proofs.All.{all_none, all_more}
 use Rattle.soundness.specs.Computed.{member_at}
-use Rattle.soundness.proofs.Turns.{member_other, member_outside, member_again, member_is, members_long, members_fail, members-done}
+use Rattle.soundness.proofs.Turns.{member_other, member_outside, member_again, member_is, members_long, members_fail, members_done}
 use Rattle.soundness.proofs.lists.members_fit.Statement.{statement}
 use Rattle.soundness.proofs.lists.members_fit.Tie as tie
 
@@ -54,4 +54,4 @@ members_fit_spec =
           (sym c.before.is-new.ensures ∙ not-false _ c.if4.false))
           read.before.before.before.before.loop.invariant.1,
     ))
-    (λ c. members-done _ _ _ _ _ _ c.before.before.if1.false c.before.loop.invariant.0 c.loop-test.false c.before.loop.invariant.1))
+    (λ c. members_done _ _ _ _ _ _ c.before.before.if1.false c.before.loop.invariant.0 c.loop-test.false c.before.loop.invariant.1))

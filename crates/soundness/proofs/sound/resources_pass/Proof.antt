@@ -10,7 +10,7 @@ use Rattle.model.specs.Sound.{each_resource, if_present}
 use Rattle.soundness.specs.Computed.{used_in}
 use Rattle.soundness.specs.Computed.{resource_passes_at, length_at, resources_pass}
 use Rattle.soundness.proofs.Passed.{waiters}
-use Rattle.soundness.proofs.Turns.{SoFar, so_far_none, so_far_more, so_far_skip, so_far_fails, so-far-done, resource-read, resource_waiting}
+use Rattle.soundness.proofs.Turns.{SoFar, so_far_none, so_far_more, so_far_skip, so_far_fails, so_far_done, resource_read, resource_waiting}
 use Rattle.soundness.proofs.sound.resources_pass.Statement.{statement}
 use Rattle.soundness.proofs.sound.resources_pass.Tie as tie
 
@@ -31,7 +31,7 @@ resources_pass_spec =
     so_far_fails (present start.args.st) (resource_passes_at start.args.st) (waiters start.args.st) _ _
     turn.before.loop-test.true
     (sym turn.in_use.ensures ∙ c.before.before.before.before.if1.true)
-    (sym (resource-read _ _ _ _ _ turn.before.loop-test.true start.requires.0 start.requires.1 c.before.resource-passes.ensures)
+    (sym (resource_read _ _ _ _ _ turn.before.loop-test.true start.requires.0 start.requires.1 c.before.resource-passes.ensures)
     ∙ not-true _ c.if2.true))
     (λ c.
     let turn = c.before.before.before.before.before.before in
@@ -40,7 +40,7 @@ resources_pass_spec =
       arith,
       turn.before.before.loop.invariant.most,
       resource_waiting start.args.st _
-          (sym (resource-read _ _ _ _ _ turn.before.loop-test.true start.requires.0 start.requires.1 c.before.before.resource-passes.ensures)
+          (sym (resource_read _ _ _ _ _ turn.before.loop-test.true start.requires.0 start.requires.1 c.before.before.resource-passes.ensures)
           ∙ not-false _ c.before.if2.false),
     ))
     (λ c. omega arith) (λ c. omega arith)
@@ -50,9 +50,9 @@ resources_pass_spec =
     let pre = turn.before.before.before.requires in
     ⊎_elim
     (λ w.
-    let passed = sym (resource-read _ _ _ _ _ turn.loop-test.true pre.0 pre.1 w.3.ensures) ∙ not-false _ w.4.left in
+    let passed = sym (resource_read _ _ _ _ _ turn.loop-test.true pre.0 pre.1 w.3.ensures) ∙ not-false _ w.4.left in
     so_far_more turn.loop-test.true (test ∙ w.0.taken) passed (resource_waiting _ _ passed) w.6 turn.before.loop.invariant)
     (λ w. so_far_skip turn.loop-test.true (test ∙ w.0.left) w.1 turn.before.loop.invariant)
     c.if1.branch)
     (λ c κs. search rules)
-    (λ c. so-far-done _ _ c.before.loop-test.false c.before.before.loop.invariant (c.used.ensures ∙ ap used_in c.before.before.before.before.requires.1)))
+    (λ c. so_far_done _ _ c.before.loop-test.false c.before.before.loop.invariant (c.used.ensures ∙ ap used_in c.before.before.before.before.requires.1)))

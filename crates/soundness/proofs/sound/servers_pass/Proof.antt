@@ -12,7 +12,7 @@ use Rattle.model.specs.State.{here}
 use Rattle.model.specs.Sound.{if_here}
 use Rattle.chain.proofs.Arrays.{end_below}
 use Rattle.soundness.specs.Computed.{server_passes_at}
-use Rattle.soundness.proofs.Turns.{each_fails, each_more, each_skip, each_done, server_fails, server-both}
+use Rattle.soundness.proofs.Turns.{each_fails, each_more, each_skip, each_done, server_fails, server_both}
 use Rattle.soundness.proofs.sound.servers_pass.Statement.{statement}
 use Rattle.soundness.proofs.sound.servers_pass.Tie as tie
 
@@ -61,7 +61,7 @@ servers_pass_spec =
     turn.loop-test.true
     (sym used.before.in_use.ensures ∙ used.if1.true)
     (sym
-    (server-both _ _ _ _ _ _ turn.loop-test.true pre.0 pre.1 pre.2 read.at_or_nobody_lem.ensures _ first.before.server-passes.ensures
+    (server_both _ _ _ _ _ _ turn.loop-test.true pre.0 pre.1 pre.2 read.at_or_nobody_lem.ensures _ first.before.server-passes.ensures
     _ _ pre.3 c.before.executes-passes.ensures (not-false _ first.if2.false))
     ∙ not-true _ c.if3.true))
     (λ c. omega arith) (λ c. omega arith)
@@ -75,7 +75,7 @@ servers_pass_spec =
       each_more _ _ _
           (used ∙ w.0.taken)
           (sym
-          (server-both _ _ _ _ _ _ turn.loop-test.true pre.0 pre.1 pre.2 w.7.ensures _ w.8.ensures
+          (server_both _ _ _ _ _ _ turn.loop-test.true pre.0 pre.1 pre.2 w.7.ensures _ w.8.ensures
           _ _ pre.3 w.10.ensures (not-false _ w.9.left))
           ∙ not-false _ w.11.left)
           turn.before.loop.invariant.1,

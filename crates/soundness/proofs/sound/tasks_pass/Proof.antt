@@ -10,7 +10,7 @@ use Rattle.model.specs.Sound.{each, if_here}
 use Rattle.soundness.specs.Computed.{used_in}
 use Rattle.soundness.specs.Computed.{task_passes_at, depth_at, tasks_pass}
 use Rattle.soundness.proofs.Passed.{depth}
-use Rattle.soundness.proofs.Turns.{SoFar, so_far_none, so_far_more, so_far_skip, so_far_fails, so-far-done, task-read, task_depth}
+use Rattle.soundness.proofs.Turns.{SoFar, so_far_none, so_far_more, so_far_skip, so_far_fails, so_far_done, task_read, task_depth}
 use Rattle.soundness.proofs.sound.tasks_pass.Statement.{statement}
 use Rattle.soundness.proofs.sound.tasks_pass.Tie as tie
 
@@ -31,7 +31,7 @@ tasks_pass_spec =
     so_far_fails (here start.args.st) (task_passes_at start.args.st) (depth start.args.st) _ _
     turn.before.loop-test.true
     (sym turn.in_use.ensures ∙ c.before.before.before.if1.true)
-    (sym (task-read _ _ _ _ start.requires.0 c.before.task-passes.ensures) ∙ not-true _ c.if2.true))
+    (sym (task_read _ _ _ _ start.requires.0 c.before.task-passes.ensures) ∙ not-true _ c.if2.true))
     (λ c.
     let turn = c.before.before.before.before.before in
     let start = turn.before.before.before.before in
@@ -39,7 +39,7 @@ tasks_pass_spec =
       arith,
       turn.before.before.loop.invariant.most,
       task_depth start.args.st _
-          (sym (task-read _ _ _ _ start.requires.0 c.before.before.task-passes.ensures) ∙ not-false _ c.before.if2.false),
+          (sym (task_read _ _ _ _ start.requires.0 c.before.before.task-passes.ensures) ∙ not-false _ c.before.if2.false),
     ))
     (λ c. omega arith) (λ c. omega arith)
     (λ c.
@@ -47,9 +47,9 @@ tasks_pass_spec =
     let test = sym c.before.in_use.ensures in
     ⊎_elim
     (λ w.
-    let passed = sym (task-read _ _ _ _ turn.before.before.before.requires.0 w.2.ensures) ∙ not-false _ w.3.left in
+    let passed = sym (task_read _ _ _ _ turn.before.before.before.requires.0 w.2.ensures) ∙ not-false _ w.3.left in
     so_far_more turn.loop-test.true (test ∙ w.0.taken) passed (task_depth _ _ passed) w.5 turn.before.loop.invariant)
     (λ w. so_far_skip turn.loop-test.true (test ∙ w.0.left) w.1 turn.before.loop.invariant)
     c.if1.branch)
     (λ c κs. search rules)
-    (λ c. so-far-done _ _ c.before.loop-test.false c.before.before.loop.invariant (c.used.ensures ∙ ap used_in c.before.before.before.before.requires.0)))
+    (λ c. so_far_done _ _ c.before.loop-test.false c.before.before.loop.invariant (c.used.ensures ∙ ap used_in c.before.before.before.before.requires.0)))

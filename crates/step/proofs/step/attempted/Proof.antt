@@ -1,7 +1,7 @@
 -- `step::step::attempted` meets its contract. Assumes nothing.
 use borrow.Author.Rules.{rules}
 use Rattle.events.proofs.Refusals.{accepted_clear, refused_by_lem}
-use Rattle.step.proofs.Steps.{attempt-refused, attempt_taken}
+use Rattle.step.proofs.Steps.{attempt_refused, attempt_taken}
 use Rattle.step.proofs.step.attempted.Statement.{statement}
 use Rattle.step.proofs.step.attempted.Tie as tie
 
@@ -14,7 +14,7 @@ attempted_spec =
     (λ c κs. refused_by_lem _ _ c.before.before.before.refusal.ensures c.before.verdict.given.1)
     (λ c.
     let tested = c.before.before.before.before in
-    attempt-refused _ _ _ _ (refused_by_lem _ _ tested.refusal.ensures c.before.before.verdict.given.1) c.refusing.ensures)
+    attempt_refused _ _ _ _ (refused_by_lem _ _ tested.refusal.ensures c.before.before.verdict.given.1) c.refusing.ensures)
     (λ c. search rules)
     (λ c κs. accepted_clear _ _ _ c.before.before.refusal.ensures c.before.before.before.requires c.enum_told.given.1)
     (λ c.

@@ -3,7 +3,7 @@ use borrow.Author.Rules.{rules}
 use native.Mathlib.Omega.{arith}
 use Rattle.trace.specs.Reading.{record_in}
 use Rattle.trace.proofs.Bodies.{two_operands, elapse_body, counts_body, reservation_body, body_least, known_event}
-use Rattle.trace.proofs.Operands.{elapse_record, pair-record, one_record}
+use Rattle.trace.proofs.Operands.{elapse_record, pair_record, one_record}
 use Rattle.trace.proofs.reading.record_in.Statement.{statement}
 use Rattle.trace.proofs.reading.record_in.Tie as tie
 
@@ -59,7 +59,7 @@ pair_returned c =
     let others = later.before.before in
     let start = others.before.before.before.before in
     let event = known_event start.args.kind start.requires.1 others.before.before.if1.false others.before.if2.false in
-    pair-record _ _ _ _ _ _ later.if4.false event.1 later.before.two-bytes4.ensures c.before.two-bytes5.ensures c.event-of3.ensures
+    pair_record _ _ _ _ _ _ later.if4.false event.1 later.before.two-bytes4.ensures c.before.two-bytes5.ensures c.event-of3.ensures
 
 pub record_in_spec : {M : Type 1} → statement M
 record_in_spec =

@@ -3,7 +3,7 @@ use mathlib.Core.Path.{refl, sym, ap, ◌∙◌}
 use borrow.Author.Tests.{not-true, not-false}
 use borrow.Author.Rules.{rules}
 use Rattle.bound.specs.Answer.{answer}
-use Rattle.vesztamor.proofs.Ways.{both, bound_unfit, bound_unread, bound-found, bound_refused}
+use Rattle.vesztamor.proofs.Ways.{both, bound_unfit, bound_unread, bound_found, bound_refused}
 use Rattle.vesztamor.proofs.bounds.vesztamor_bound.Statement.{statement}
 use Rattle.vesztamor.proofs.bounds.vesztamor_bound.Tie as tie
 
@@ -31,7 +31,7 @@ vesztamor_bound_spec =
     let read = sections.before.before in
     let lent = read.before.before.before.before.args in
     both _ _ _ _ _
-    (bound-found _ _ _ lent.out.now read.before.if1.false (sym read.is-sections.ensures ∙ not-false _ sections.before.if2.false) _
+    (bound_found _ _ _ lent.out.now read.before.if1.false (sym read.is-sections.ensures ∙ not-false _ sections.before.if2.false) _
     (found.bound.ensures ∙ ap (λ s. answer s lent.task lent.allowance) sections.sections-in.ensures) _ _ told.answer.given.1)
     refl
     put.put-bound.ensures)

@@ -4,7 +4,7 @@ use native.Mathlib.Omega.{arith}
 use borrow.Author.Rules.{rules}
 use Rattle.bytes.proofs.Parts.{Filled, filled_none, Filled-more, filled_done}
 use Rattle.vesztamor.specs.Metering.{server_row_bytes, metered_bytes}
-use Rattle.vesztamor.proofs.Rows.{server_row_long, row-stored}
+use Rattle.vesztamor.proofs.Rows.{server_row_long, row_stored}
 use Rattle.vesztamor.proofs.metering.put_rows.Statement.{statement}
 use Rattle.vesztamor.proofs.metering.put_rows.Tie as tie
 
@@ -21,6 +21,6 @@ put_rows_spec =
     let put = c.before.before in
     let row = put.before.before in
     let turn = row.before in
-    Filled-more 17 (server_row_long _) turn.before.loop.invariant turn.loop-test.true _ (row-stored _ _ _ _ _ row.row_of.ensures put.put-row.ensures))
+    Filled-more 17 (server_row_long _) turn.before.loop.invariant turn.loop-test.true _ (row_stored _ _ _ _ _ row.row_of.ensures put.put-row.ensures))
     (λ c. c.before.loop.invariant.same)
     (λ c. filled_done c.before.loop.invariant c.loop-test.false))

@@ -2,7 +2,7 @@
 use mathlib.Core.Path.{refl}
 use borrow.Author.Rules.{rules}
 use Rattle.vesztamor.proofs.Held.{held, unheld}
-use Rattle.vesztamor.proofs.Rows.{meter_unfit, meter_none, meter-some, rows_fit}
+use Rattle.vesztamor.proofs.Rows.{meter_unfit, meter_none, meter_some, rows_fit}
 use Rattle.vesztamor.proofs.Ways.{both}
 use Rattle.vesztamor.proofs.metering.vesztamor_meter.Statement.{statement}
 use Rattle.vesztamor.proofs.metering.vesztamor_meter.Tie as tie
@@ -31,7 +31,7 @@ vesztamor_meter_spec =
     let told = metered.before in
     let read = told.before.before.before in
     both _ _ _ _ _
-    (meter-some _ _ read.before.if1.false _ (held _ _ read.read.ensures told.enum_told.given.1) _ metered.decided.ensures _
+    (meter_some _ _ read.before.if1.false _ (held _ _ read.read.ensures told.enum_told.given.1) _ metered.decided.ensures _
     counted.rows_written.ensures)
     c.step-answer.ensures
     put.put-rows.ensures))

@@ -5,7 +5,7 @@ use borrow.Author.Rules.{rules}
 use Rattle.model.specs.Step.{stepped}
 use Rattle.image.proofs.Image.{decoded_long}
 use Rattle.vesztamor.proofs.Held.{held, unheld}
-use Rattle.vesztamor.proofs.Ways.{both, written_whole, step_unknown, step_unsound, step_none, step-refused, step-done}
+use Rattle.vesztamor.proofs.Ways.{both, written_whole, step_unknown, step_unsound, step_none, step_refused, step_done}
 use Rattle.vesztamor.proofs.stepping.vesztamor_step.Statement.{statement}
 use Rattle.vesztamor.proofs.stepping.vesztamor_step.Tie as tie
 
@@ -50,7 +50,7 @@ vesztamor_step_spec =
     let read = told.before.before.before in
     let known = read.before.before in
     both _ _ _ _ _
-    (step-refused _ _ _ _ _ (sym known.before.is_event_lem.ensures ∙ not-false _ known.if1.false)
+    (step_refused _ _ _ _ _ (sym known.before.is_event_lem.ensures ∙ not-false _ known.if1.false)
     _ (held _ _ read.read.ensures told.enum_told.given.1) _
     (done.step.ensures.0 ∙ ap (stepped _) event.event_of_lem.ensures)
     (sym refused.is-refused.ensures ∙ c.before.if3.true))
@@ -68,7 +68,7 @@ vesztamor_step_spec =
     let bytes = known.before.before.before.args.state.now in
     let holds = held bytes _ read.read.ensures told.enum_told.given.1 in
     both _ _ _ _ _
-    (step-done _ _ _ _ _ (sym known.before.is_event_lem.ensures ∙ not-false _ known.if1.false) _ holds _
+    (step_done _ _ _ _ _ (sym known.before.is_event_lem.ensures ∙ not-false _ known.if1.false) _ holds _
     (done.step.ensures.0 ∙ ap (stepped _) event.event_of_lem.ensures)
     (sym refused.is-refused.ensures ∙ write.before.before.if3.false))
     c.step-answer2.ensures

@@ -9,8 +9,8 @@ use Rattle.bound.specs.declared.Tally.TheVariants.{Of}
 use Rattle.bound.specs.Interference.{gathered, weighing, weighed_on, first_greatest, level}
 use Rattle.bound.specs.Computed.{resources_of, sets_of, on_span, from_in, end_in, Shown, spend}
 use Rattle.bound.proofs.Turns.{spend_same, best_greater, best_stays}
-use Rattle.bound.proofs.Skips.{best_from, best-to}
-use Rattle.bound.proofs.Steps.{fair_of, best-exceeds}
+use Rattle.bound.proofs.Skips.{best_from, best_to_lem}
+use Rattle.bound.proofs.Steps.{fair_of, best_exceeds}
 use Rattle.bound.proofs.interference.+first_greatest_interference_sum_largest_order_ordering_value_sum_over_tried_next_weigh.Proof.Cycle.{weigh_below, first_greatest_at}
 use Rattle.bound.proofs.interference.weigh.Reads as weigh
 use Rattle.bound.proofs.interference.first_greatest.Reads as first-greatest
@@ -65,7 +65,7 @@ module _ (t : ℕ) where
       let call = c.before.before in
       let at-loop = call.before.before in (
         λ s shown.
-            best-exceeds s _ _ _ _ _ _ _ _ _ shown.drawn.count_is (omega arith) (at-loop.loop.invariant.6 s shown)
+            best_exceeds s _ _ _ _ _ _ _ _ _ shown.drawn.count_is (omega arith) (at-loop.loop.invariant.6 s shown)
             (sym c.enum_told.given.1 ∙ call.weigh.ensures.0 s shown),
         tt,
       )
@@ -97,7 +97,7 @@ module _ (t : ℕ) where
       let start = at-loop.before.before.before.before in (
         λ s shown.
             at-loop.loop.invariant.6 s shown
-            ∙ spend_same _ _ _ (best-to s _ _ _ shown.drawn start.requires.1.0.spanned _ _ _ _ _ at-loop.loop.invariant.1 (omega arith) (omega arith)),
+            ∙ spend_same _ _ _ (best_to_lem s _ _ _ shown.drawn start.requires.1.0.spanned _ _ _ _ _ at-loop.loop.invariant.1 (omega arith) (omega arith)),
         record { most = omega arith; giver_most = omega arith },
       )
 

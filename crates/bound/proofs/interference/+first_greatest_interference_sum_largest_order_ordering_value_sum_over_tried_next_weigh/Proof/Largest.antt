@@ -8,8 +8,8 @@ use Rattle.bound.specs.declared.Sections.{Sections}
 use Rattle.bound.specs.declared.Tally.TheVariants.{Of}
 use Rattle.bound.specs.Interference.{larger, gathered, weighing, tried_next, order, level}
 use Rattle.bound.specs.Computed.{resources_of, sets_of, Shown, spend}
-use Rattle.bound.proofs.Turns.{spend_same, turns_none, turn-out, order-goes}
-use Rattle.bound.proofs.Steps.{fair_of, order-made, order_ends, order-skips, turns_all, larger_none, larger_most}
+use Rattle.bound.proofs.Turns.{spend_same, turns_none, turn_out, order_goes}
+use Rattle.bound.proofs.Steps.{fair_of, order_made, order_ends, order_skips, turns_all, larger_none, larger_most}
 use Rattle.bound.proofs.interference.+first_greatest_interference_sum_largest_order_ordering_value_sum_over_tried_next_weigh.Proof.Cycle.{tried_next_below, largest_order_at}
 use Rattle.bound.proofs.interference.tried_next.Reads as tried-next
 use Rattle.bound.proofs.interference.largest_order.Reads as largest-order
@@ -48,7 +48,7 @@ module _ (t : ℕ) where
         omega arith,
         at-loop.loop.invariant.1,
         λ s shown.
-            order-goes _ _ _ _ _ _ _ _ _ (order-skips _ _ s _ _ _ _ _ _ (not-true _ c.if2.true)) _ (sym (larger_none _)) (at-loop.loop.invariant.2 s shown),
+            order_goes _ _ _ _ _ _ _ _ _ (order_skips _ _ s _ _ _ _ _ _ (not-true _ c.if2.true)) _ (sym (larger_none _)) (at-loop.loop.invariant.2 s shown),
       )
 
   tried_next_requires : largest-order-lts.Need-tried-next-requires (calls t) (largest_order_at t) largest-order.Post InvLoop μ_loop
@@ -63,9 +63,9 @@ module _ (t : ℕ) where
       let call = c.before.before in
       let at-loop = call.before.before.before.before in (
         λ s shown.
-            turn-out (λ x. larger) (λ x y z. refl) _ _ _ 6 _ _ _ (omega arith) (at-loop.loop.invariant.2 s shown)
+            turn_out (λ x. larger) (λ x y z. refl) _ _ _ 6 _ _ _ (omega arith) (at-loop.loop.invariant.2 s shown)
             (sym c.enum_told.given.1 ∙ call.tried-next.ensures.0 s shown)
-            ∙ spend_same _ _ _ (order-made _ s _ _ _ _ _ at-loop.before.if1.false),
+            ∙ spend_same _ _ _ (order_made _ s _ _ _ _ _ at-loop.before.if1.false),
         tt,
       )
 
@@ -78,13 +78,13 @@ module _ (t : ℕ) where
         omega arith,
         larger_most at-loop.loop.value known.tried.given.0.0 _ _ _ c.larger.ensures (omega arith) (omega arith),
         λ s shown.
-            order-goes _ _ _ _ _ _ _ _ _ (sym known.tried.given.1 ∙ call.tried-next.ensures.0 s shown) _ c.larger.ensures (at-loop.loop.invariant.2 s shown),
+            order_goes _ _ _ _ _ _ _ _ _ (sym known.tried.given.1 ∙ call.tried-next.ensures.0 s shown) _ c.larger.ensures (at-loop.loop.invariant.2 s shown),
       )
 
   all_tried : largest-order-lts.Need-returns-3 (calls t) (largest_order_at t) largest-order.Post InvLoop μ_loop
   all_tried c = (
     λ s shown.
-        c.before.loop.invariant.2 s shown ∙ spend_same _ _ _ (turns_all _ _ _ (omega arith) (omega arith) ∙ order-made _ s _ _ _ _ _ c.before.before.if1.false),
+        c.before.loop.invariant.2 s shown ∙ spend_same _ _ _ (turns_all _ _ _ (omega arith) (omega arith) ∙ order_made _ s _ _ _ _ _ c.before.before.if1.false),
     record { most = omega arith; giver_most = omega arith },
   )
 

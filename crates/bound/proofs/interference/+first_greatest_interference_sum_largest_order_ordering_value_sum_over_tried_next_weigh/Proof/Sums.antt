@@ -7,9 +7,9 @@ use Rattle.bound.specs.declared.Sections.{Sections}
 use Rattle.bound.specs.declared.Tally.TheVariants.{Of}
 use Rattle.bound.specs.Interference.{both, gathered, ordering, sum_over, level}
 use Rattle.bound.specs.Computed.{resources_of, sets_of, parent_of, in_span, from_in, end_in, Shown, spend}
-use Rattle.bound.proofs.Turns.{spend_same, turn-out, sum_goes}
+use Rattle.bound.proofs.Turns.{spend_same, turn_out, sum_goes}
 use Rattle.bound.proofs.Skips.{sum_from, sum_to}
-use Rattle.bound.proofs.Steps.{fair_of, sum-made, sum_alone, sum_ends}
+use Rattle.bound.proofs.Steps.{fair_of, sum_made, sum_alone, sum_ends}
 use Rattle.bound.proofs.interference.+first_greatest_interference_sum_largest_order_ordering_value_sum_over_tried_next_weigh.Proof.Cycle.{sum_over_below, interference_sum_at}
 use Rattle.bound.proofs.interference.sum_over.Reads as Sum-over
 use Rattle.bound.proofs.interference.interference_sum.Reads as interference-sum
@@ -80,9 +80,9 @@ module _ (t : ℕ) where
       let at-loop = call.before.before in
       let deep = at-loop.before.before.before.before in (
         λ s shown.
-            turn-out (λ c. both) (λ c x y. refl) _ _ _ s.count _ _ _ (omega (arith, shown.drawn.count_is)) (at-loop.loop.invariant.5 s shown)
+            turn_out (λ c. both) (λ c x y. refl) _ _ _ s.count _ _ _ (omega (arith, shown.drawn.count_is)) (at-loop.loop.invariant.5 s shown)
             (sym c.enum_told.given.1 ∙ call.Sum-over.ensures.0 s shown)
-            ∙ spend_same _ _ _ (sum-made s _ _ _ _ _ _ deep.before.before.if1.false deep.if2.false),
+            ∙ spend_same _ _ _ (sum_made s _ _ _ _ _ _ deep.before.before.if1.false deep.if2.false),
         tt,
       )
 
@@ -113,7 +113,7 @@ module _ (t : ℕ) where
             at-loop.loop.invariant.5 s shown
             ∙ spend_same _ _ _
             (sum_to s _ _ _ shown.drawn start.requires.1.0.spanned _ _ _ _ _ _ _ at-loop.loop.invariant.1 (omega arith) (omega arith)
-            ∙ sum-made s _ _ _ _ _ _ deep.before.before.if1.false deep.if2.false),
+            ∙ sum_made s _ _ _ _ _ _ deep.before.before.if1.false deep.if2.false),
         record { most = omega arith; giver_most = omega arith },
       )
 

@@ -4,7 +4,7 @@ use Prim.Native.Nat.{ℕ}
 use native.Mathlib.Omega.{arith}
 use borrow.Author.Rules.{rules}
 use Rattle.bound.proofs.Turns.{first_out, both_of, both_later}
-use Rattle.bound.proofs.Steps.{fair_of, tried_starts, tried-is}
+use Rattle.bound.proofs.Steps.{fair_of, tried_starts, tried_is}
 use Rattle.bound.proofs.interference.+first_greatest_interference_sum_largest_order_ordering_value_sum_over_tried_next_weigh.Proof.Cycle.{first_greatest_below, tried_next_at, largest_order_below}
 use Rattle.bound.proofs.interference.first_greatest.Reads as first-greatest
 use Rattle.bound.proofs.interference.tried_next.Reads as tried-next
@@ -54,7 +54,7 @@ module _ (t : ℕ) where
         λ s shown.
             let next = sym known.best.given.1 ∙ best.first-greatest.ensures.0 s shown in
             both_later _ _ _ _
-            (tried-is s _ _ _ shown _ _ _ _ _ _ _ best.before.requires.1.7 _ _ _ _ next fair.giver_most _ _ sets.before.without-task.ensures sets.held_after.ensures)
+            (tried_is s _ _ _ shown _ _ _ _ _ _ _ best.before.requires.1.7 _ _ _ _ next fair.giver_most _ _ sets.before.without-task.ensures sets.held_after.ensures)
             _ _ _ next (sym c.enum-told2.given.1 ∙ call.largest-order.ensures.0 s shown),
         tt,
       )
@@ -80,7 +80,7 @@ module _ (t : ℕ) where
         λ s shown.
             let next = sym known.best.given.1 ∙ best.first-greatest.ensures.0 s shown in
             both_of _ _ _ _
-            (tried-is s _ _ _ shown _ _ _ _ _ _ _ best.before.requires.1.7 _ _ _ _ next fair.giver_most _ _ sets.before.without-task.ensures sets.held_after.ensures)
+            (tried_is s _ _ _ shown _ _ _ _ _ _ _ best.before.requires.1.7 _ _ _ _ next fair.giver_most _ _ sets.before.without-task.ensures sets.held_after.ensures)
             _ _ _ _ _ _ next (sym c.before.rest.given.1 ∙ call.largest-order.ensures.0 s shown),
         record { most = omega arith; giver_most = omega arith },
       )

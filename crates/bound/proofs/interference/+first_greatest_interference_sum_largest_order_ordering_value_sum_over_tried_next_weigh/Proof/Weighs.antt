@@ -5,7 +5,7 @@ use native.Mathlib.Omega.{arith}
 use borrow.Author.Rules.{rules}
 use borrow.Author.Tests.{not-true, not-false}
 use Rattle.bound.proofs.Turns.{one_of, both_of, both_later}
-use Rattle.bound.proofs.Steps.{fair_of, weigh_not, weigh_none, weigh_met, weigh-is}
+use Rattle.bound.proofs.Steps.{fair_of, weigh_not, weigh_none, weigh_met, weigh_is}
 use Rattle.bound.proofs.interference.+first_greatest_interference_sum_largest_order_ordering_value_sum_over_tried_next_weigh.Proof.Cycle.{weigh_at, interference_sum_below}
 use Rattle.bound.proofs.interference.weigh.Reads as weigh
 use Rattle.bound.proofs.interference.interference_sum.Reads as interference-sum
@@ -65,7 +65,7 @@ module _ (t : ℕ) where
       let start = on.before.before.before in (
         λ s shown.
             both_later _ _ _ _
-            (weigh-is s _ _ _ shown _ _ _ _ _ _ start.requires.1.2 _ on.before.is-on.ensures (not-false _ on.if1.false)
+            (weigh_is s _ _ _ shown _ _ _ _ _ _ start.requires.1.2 _ on.before.is-on.ensures (not-false _ on.if1.false)
             start.requires.1.0.ranged.count_most _ apart.before.meets.ensures apart.if3.false _ _ wide.with-task.ensures sets.joined.ensures)
             _ _ _ (one_of _ _ some.if2.false) (sym c.enum_told.given.1 ∙ call.interference-sum.ensures.0 s shown),
         tt,
@@ -94,7 +94,7 @@ module _ (t : ℕ) where
       let length = facts.0.ranged.length_most _ facts.2 in (
         λ s shown.
             both_of _ _ _ _
-            (weigh-is s _ _ _ shown _ _ _ _ _ _ start.requires.1.2 _ on.before.is-on.ensures (not-false _ on.if1.false)
+            (weigh_is s _ _ _ shown _ _ _ _ _ _ start.requires.1.2 _ on.before.is-on.ensures (not-false _ on.if1.false)
             start.requires.1.0.ranged.count_most _ apart.before.meets.ensures apart.if3.false _ _ wide.with-task.ensures sets.joined.ensures)
             _ _ _ _ _ _ (one_of _ _ some.if2.false) (sym c.before.before.nested.given.1 ∙ call.interference-sum.ensures.0 s shown),
         record { most = omega (arith, facts, some.if2.false); giver_most = omega arith },
