@@ -6,7 +6,7 @@ use Rattle.laws.specs.Tests.{if◌then◌else◌}
 use Rattle.model.specs.declared.Event.{Event}
 use Rattle.model.specs.declared.Event.TheVariants.{Wake, Suspend, Dispatch, Preempt, Elapse, Recharge, Lock, Unlock}
 use Rattle.model.specs.declared.Phase.{Phase}
-use Rattle.model.specs.declared.Phase.TheVariants.{Idle, Recharging}
+use Rattle.model.specs.declared.Phase.TheVariants.{Idle, Active, Recharging}
 use Rattle.model.specs.declared.Mode.{Mode}
 use Rattle.model.specs.declared.Mode.TheVariants.{Suspended, Ready}
 use Rattle.model.specs.declared.TaskNo.{TaskNo}
@@ -14,7 +14,7 @@ use Rattle.model.specs.declared.Server.{Server}
 use Rattle.model.specs.declared.State.{State}
 use Rattle.model.specs.declared.Task.{Task}
 use Rattle.model.specs.State.{places, idle, active, running, placed}
-use Rattle.model.specs.Events.{with_phase, woken_at, server_by, wakes, woken_server, rests, rested_server, runs_out, spent_server, task_by, ticked_task}
+use Rattle.model.specs.Events.{with_phase, refilled, server_by, wakes, woken_server, rests, rested_server, runs_out, spent_server, task_by, ticked_task}
 use Rattle.events.specs.declared.turning.Turn.{Turn}
 use Rattle.events.specs.declared.turning.Turn.TheVariants.{Wakes, Rests}
 use Rattle.events.specs.declared.turning.Turned.{Turned}
@@ -41,7 +41,7 @@ concerns Rests p = active p || running p
 
 -- what it turns into
 abbrev pub turned : Turn → ℕ → Server → Server
-turned Wakes clock x = woken_at clock x
+turned Wakes clock x = refilled Active clock x
 turned Rests clock x = with_phase Idle x
 
 -- the deadline of a server that wakes fits 32 bits

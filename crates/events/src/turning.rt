@@ -1,15 +1,15 @@
 // What becomes of the servers that serve a task when it wakes or comes to rest, and how many change. Servers that are not in use are not read.
 // Assumes that the chain ends are the state's, and that a woken server's deadline fits.
-ghost use Rattle.std.specs.Prelude.{◌≡◌, true, ℕ, ◌+◌, ◌*◌, ◌<◌};
+ghost use Rattle.std.specs.Prelude.{◌≡◌, true, ℕ, ◌+◌, ◌<◌};
 ghost use Rattle.laws.specs.Tests.{if◌then◌else◌};
 ghost use Rattle.model.specs.State.{here, server_at};
-ghost use Rattle.model.specs.Events.{refilled, refills_at, woken_at};
+ghost use Rattle.model.specs.Events.{refilled};
 ghost use Rattle.chain.specs.Arrays.{ends_of};
 ghost use Rattle.events.specs.Computed.{concerns, turned, Timely, turned_servers, mode_after};
 
 use model::{Mode, Phase, Server, State, TaskNo};
 
-// Idle servers become Active, filled anew where rule 7.1 says so; Active and Running ones become Idle.
+// Idle servers become Active, refilled; Active and Running ones become Idle.
 #[derive(Drop)]
 pub enum Turn {
     Wakes,
@@ -53,35 +53,6 @@ pub fn refilled(server: Server, phase: Phase, clock: u32) -> Server
     }
 }
 
-// The product of two numbers of 32 bits, which has 64 at most.
-fn product(a: u32, b: u32) -> u64
-    ensures { result ≡ a * b }
-{
-    a as u64 * b as u64
-}
-
-// Whether a wake at this time fills the server anew.
-fn refills_at(server: Server, clock: u32) -> bool
-    ensures { result ≡ refills_at clock server }
-{
-    if server.deadline <= clock {
-        return true;
-    }
-    product(server.deadline - clock, server.quota) <= product(server.budget, server.period)
-}
-
-// Active: filled anew, or with the budget and the deadline that it had.
-fn woken_at(server: Server, clock: u32) -> Server
-    requires { clock + server.period < 4294967296 }
-    ensures { result ≡ woken_at clock server }
-{
-    if refills_at(server, clock) {
-        refilled(server, Phase::Active, clock)
-    } else {
-        model::builders::with_phase(server, Phase::Active)
-    }
-}
-
 // The server after the turn, if it is one of those that turn.
 fn turned_if(turns: bool, turn: Turn, server: Server, clock: u32) -> Server
     requires { Timely turn (clock + server.period) }
@@ -89,7 +60,7 @@ fn turned_if(turns: bool, turn: Turn, server: Server, clock: u32) -> Server
 {
     if turns {
         match turn {
-            Turn::Wakes => woken_at(server, clock),
+            Turn::Wakes => refilled(server, Phase::Active, clock),
             Turn::Rests => model::builders::with_phase(server, Phase::Idle),
         }
     } else {

@@ -44,7 +44,7 @@ module _ (tb : Table) (accepted : fresh_refusal tb ≡ none) where
   quota_told i h = (quota_fact (entry_at tb i).quota (entry_at tb i).period).holds (entry_told i h).0
 
   -- what the state has
-  pub server_fresh : (i : ℕ) → here st i ≡ true → server_at st i ≡ fresh_server (entry_at tb i)
+  server_fresh : (i : ℕ) → here st i ≡ true → server_at st i ≡ fresh_server (entry_at tb i)
   unfolding fresh_state fresh_server_at
   server_fresh i h =
       set_at_lem places i (fresh_server_at tb) (replicate places blank_server) no_server (here_below st i h) (here_below st i h)

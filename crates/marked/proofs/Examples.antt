@@ -15,7 +15,7 @@ use Rattle.model.specs.State.{server_at, here, present, declares, owner_of, next
 use Rattle.model.specs.Sound.{if_here, each, if_present, each_resource, sizes_fit, reservation_fits, declaration_fits, deadline_fits, budget_fits, empty_recharges, seated, held_at, queued_at, stack_place_fits, stack_fits, queue_place_fits, queue_fits, owner_fits, wait_fits, stack_agrees, queue_agrees, entries_agree, unowned_unqueued, used_declared, all_declared, chain_open, idle_fits, executor_fits, served_executes, accounts_fit, loose, sound}
 use Rattle.model.specs.Fresh.{counts_refusal, entry_refusal, task_refusal, fresh_refusal, fresh_server_at, fresh_task_at, fresh_state, fresh_of}
 use Rattle.model.specs.RuleH.{budget_at, chosen, executor_by, settled_task, settled}
-use Rattle.model.specs.Events.{server_by, each_server, refills_at, woken_at, wakes, woken_server, woken, rests, rested_server, rested, slept, phased, own_ticks, lent_ticks, spin_ticks, runs_out, spent_server, ticked_task, task_by, elapsed, recharged_phase, recharged, next_in_queue, shifted, granted, joined, rested_end, locked, freed, passed, unlocked}
+use Rattle.model.specs.Events.{server_by, each_server, wakes, woken_server, woken, rests, rested_server, rested, slept, phased, own_ticks, lent_ticks, spin_ticks, runs_out, spent_server, ticked_task, task_by, elapsed, recharged_phase, recharged, next_in_queue, shifted, granted, joined, rested_end, locked, freed, passed, unlocked}
 use Rattle.model.specs.Step.{crowded, affords, ends_at, top_of, state_after, attempted, stepped}
 use Rattle.model.specs.Meter.{row_of, metered_row, metered_rows, meter_refusal, metered}
 use Rattle.model.specs.Groups.{not_in_both, shares, not_from, found_next, spread, in_group, any_key, group_of}
@@ -29,12 +29,10 @@ use Rattle.trace.specs.Reading.{body_length, entry_in, record_in, read_fault, re
 use Rattle.listing.specs.Text.{field, newline, spelled, phase_word}
 use Rattle.listing.specs.Listing.{event_line, stop_line, server_line, task_line, end_lines, items_text, listing}
 use Rattle.marked.specs.Clauses as clauses
-use Rattle.marked.specs.Earlier.{filled_server}
 use Rattle.marked.specs.Example.{Example, AllHold, ◌and◌, nothing}
 use Rattle.marked.specs.Trace.{wake}
 use Rattle.marked.specs.Marked.{table_r, table}
 use Rattle.marked.specs.Runs.{runs}
-use Rattle.marked.specs.Waking.{wakings}
 use Rattle.marked.specs.Answers.{answered}
 use Rattle.marked.specs.States.{states}
 use Rattle.marked.specs.Starts.{beginnings}
@@ -57,13 +55,13 @@ FirstWake =
     ((server_at (stepped (fresh_state table_r) (wake 2)).state 2).phase ≡ Active)
 
 examples
-    : AllHold table × AllHold runs × AllHold wakings × AllHold answered × AllHold states × AllHold beginnings × AllHold traces × AllHold orders × AllHold calculations
+    : AllHold table × AllHold runs × AllHold answered × AllHold states × AllHold beginnings × AllHold traces × AllHold orders × AllHold calculations
     × FirstWake
 unfolding first_of count_to all_to sum_to set_to fold_to better_of best_to join_to after log here present declares owner_of next chain_end served running_at running_for
     executor_of executing executes if_here each if_present each_resource sizes_fit reservation_fits declaration_fits deadline_fits budget_fits empty_recharges
     seated held_at queued_at stack_place_fits stack_fits queue_place_fits queue_fits owner_fits wait_fits stack_agrees queue_agrees entries_agree unowned_unqueued
     used_declared all_declared chain_open idle_fits executor_fits served_executes accounts_fit loose sound counts_refusal entry_refusal task_refusal fresh_refusal
-    fresh_server_at fresh_task_at fresh_state fresh_of budget_at chosen executor_by settled_task settled server_by each_server refills_at woken_at wakes woken_server woken rests
+    fresh_server_at fresh_task_at fresh_state fresh_of budget_at chosen executor_by settled_task settled server_by each_server wakes woken_server woken rests
     rested_server rested slept phased own_ticks lent_ticks spin_ticks runs_out spent_server ticked_task task_by elapsed recharged_phase recharged next_in_queue
     shifted granted joined rested_end locked freed passed unlocked crowded affords ends_at top_of state_after attempted stepped sets.inEither sets.joined sets.notInBoth
     sets.meets sections.around sections.outer sections.sectionFits sections.childLength sections.childrenFit sections.sectionRefusal sections.tableRefusal
@@ -73,12 +71,12 @@ unfolding first_of count_to all_to sum_to set_to fold_to better_of best_to join_
     event_line stop_line server_line task_line end_lines items_text listing row_of metered_row metered_rows meter_refusal metered not_in_both shares not_from found_next
     spread in_group any_key group_of clauses.quotaFrom1 clauses.quotaToPeriod clauses.periodToLimit clauses.depthFits clauses.entriesPresent
     clauses.waitingFits clauses.waitersHere clauses.stacksAgree clauses.queuesAgree clauses.ownerDeclares clauses.waiterDeclares clauses.allHeldDeclared
-    clauses.allAwaitedDeclared clauses.ownFits clauses.lentFits clauses.spinFits clauses.executedFits clauses.sumFits clauses.brokenOf clauses.broken filled_server
+    clauses.allAwaitedDeclared clauses.ownFits clauses.lentFits clauses.spinFits clauses.executedFits clauses.sumFits clauses.brokenOf clauses.broken
 examples = (
   refl and refl and refl and elapse_refused 0 refl and elapse_refused 1000001 refl and refl and refl and refl and refl and
-      refl and refl and refl and refl and refl and refl and refl and refl and nothing,
-  refl and refl and refl and refl and refl and refl and refl and refl and refl and refl and refl and refl and refl and refl and refl and nothing,
-  refl and refl and refl and refl and refl and refl and refl and refl and nothing,
+      refl and refl and refl and refl and refl and nothing,
+  refl and refl and refl and refl and refl and refl and refl and refl and refl and refl and refl and refl and refl and refl and refl and
+      refl and nothing,
   refl and refl and refl and refl and refl and refl and refl and refl and refl and refl and refl and refl and refl and refl and refl and
       refl and refl and refl and refl and refl and refl and refl and refl and refl and refl and refl and refl and refl and refl and refl and
       refl and refl and refl and refl and refl and refl and refl and refl and refl and refl and refl and refl and refl and refl and refl and
@@ -108,7 +106,7 @@ nothing also ys = ys
 (x and xs) also ys = x and (xs also ys)
 
 pub further_holds : AllHold further
-further_holds = examples.1 also examples.2 also examples.3 also examples.4 also examples.5 also examples.6 also examples.7 also examples.8
+further_holds = examples.1 also examples.2 also examples.3 also examples.4 also examples.5 also examples.6 also examples.7
 
 pub first_wake : FirstWake
-first_wake = examples.9
+first_wake = examples.8

@@ -1,5 +1,5 @@
 -- What an example says. Assumes nothing.
-use Rattle.std.specs.Prelude.{◌≡◌, Bool, true, List, [], ◌∷◌, map, ℕ, ◌+◌, ◌*◌, take}
+use Rattle.std.specs.Prelude.{◌≡◌, Bool, true, List, [], ◌∷◌, map, ℕ, ◌+◌, take}
 use Prim.Native.String.{String}
 use Rattle.reordering.specs.Run.{after, log}
 use Rattle.model.specs.declared.Phase.{Phase}
@@ -14,7 +14,6 @@ use Rattle.model.specs.declared.Answer.TheVariants.{Ok, Refused}
 use Rattle.model.specs.declared.Outcome.{Outcome}
 use Rattle.model.specs.declared.FreshOutcome.{FreshOutcome}
 use Rattle.model.specs.declared.Row.{Row}
-use Rattle.model.specs.State.{ServerNumber, server_at}
 use Rattle.model.specs.Sound.{sound}
 use Rattle.model.specs.Fresh.{fresh_state, fresh_of}
 use Rattle.model.specs.Step.{stepped, move}
@@ -28,16 +27,12 @@ use Rattle.trace.specs.Reading.{read_at}
 use Rattle.bytes.specs.Text.{bytes}
 use Rattle.listing.specs.Listing.{listing}
 use Rattle.marked.specs.Clauses.{Clause, broken}
-use Rattle.marked.specs.Earlier.{earlier_move}
 
 pub data Example : Type 0 where
   -- a file, and what `replay` prints of it
   prints : List ℕ → String → Example
   -- events from a fresh table: the last answer, the servers' states and where each task executes
   leads : Table → List Event → Answer → List Phase → List Runs → Example
-  -- events from a fresh table: what a server has then spent, times P, and the most that its share allows, (clock + P) × Q; with wakes as they were before
-  -- request 02, and as they are
-  spends : Table → List Event → ServerNumber → ℕ × ℕ → ℕ × ℕ → Example
   -- an event on a state, and its answer
   answers : State → Event → Answer → Example
   -- an event that every sound state refuses with a number
@@ -93,12 +88,6 @@ pub record Seen : Type 0 where
 abbrev pub seen : Table → List Event → Seen
 seen tb es = record { answer = last_answer tb es; servers = phases (last_state tb es); tasks = executors (last_state tb es) }
 
--- what a server has spent, and the most that its share allows (rule 8.3)
-abbrev pub spent_and_share : State → ServerNumber → ℕ × ℕ
-spent_and_share st s =
-    let x = server_at st s in
-    ((x.own + x.lent + x.spin) * x.period, (st.clock + x.period) * x.quota)
-
 -- a step that refuses all events with 1
 abbrev pub refusing1 : State → Event → Outcome
 refusing1 st e = record { answer = Refused 1; state = st }
@@ -114,8 +103,6 @@ event_of p = p.0
 abbrev pub Holds : Example → Type 0
 Holds (prints file text) = listing file ≡ bytes text
 Holds (leads tb es a ps rs) = seen tb es ≡ record { answer = a; servers = ps; tasks = rs }
-Holds (spends tb es s earlier now) =
-    ◌≡◌ {A = (ℕ × ℕ) × (ℕ × ℕ)} (spent_and_share (after earlier_move (fresh_state tb) es) s, spent_and_share (last_state tb es) s) (earlier, now)
 Holds (answers st e a) = (stepped st e).answer ≡ a
 Holds (refuses e n) = (st : State) → sound st ≡ true → stepped st e ≡ record { answer = Refused n; state = st }
 Holds (bounds s t allowance b) = bound.answer s t allowance ≡ b

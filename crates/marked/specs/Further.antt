@@ -3,7 +3,6 @@
 use Rattle.std.specs.Prelude.{List, ◌++◌}
 use Rattle.marked.specs.Example.{Example}
 use Rattle.marked.specs.Runs.{runs}
-use Rattle.marked.specs.Waking.{wakings}
 use Rattle.marked.specs.Answers.{answered}
 use Rattle.marked.specs.States.{states}
 use Rattle.marked.specs.Starts.{beginnings}
@@ -12,4 +11,4 @@ use Rattle.marked.specs.Orders.{orders}
 use Rattle.marked.specs.Bounds.{calculations}
 
 abbrev pub further : List Example
-further = runs ++ wakings ++ answered ++ states ++ beginnings ++ traces ++ orders ++ calculations
+further = runs ++ answered ++ states ++ beginnings ++ traces ++ orders ++ calculations

@@ -1,12 +1,10 @@
 pub mod Trace
 pub mod Entries
 pub mod Clauses
-pub mod Earlier
 pub mod Example
 pub mod Marked
 pub mod Desk
 pub mod Runs
-pub mod Waking
 pub mod States
 pub mod Answers
 pub mod Starts

@@ -15,7 +15,7 @@ use Rattle.bound.specs.declared.Sections.{Sections}
 use Rattle.bound.specs.declared.Bounded.TheVariants as bounded
 use Rattle.bound.specs.Table.{no_section}
 use Rattle.marked.specs.Trace.{line, table_of, wake, suspend, dispatch, preempt, recharge, lock, unlock, trace_of}
-use Rattle.marked.specs.Example.{Example, prints, leads, spends, answers, refuses, bounds, last_state}
+use Rattle.marked.specs.Example.{Example, prints, leads, answers, refuses, bounds, last_state}
 
 -- Case R: two processors, and three tasks that share one resource (docs/TRACE.md tells it line by line)
 abbrev pub table_r : Table
@@ -64,21 +64,6 @@ three_tasks =
     sections_of 3
     (section 0 1 5 Outermost ∷ section 1 0 9 Outermost ∷ section 1 1 4 (Inside 1) ∷ section 2 0 8 Outermost ∷ section 2 1 3 (Inside 3) ∷ [])
 
--- request 02: 6 of 10 ticks are spent in a period of 20, and the task sleeps; so many ticks later it wakes
-abbrev pub table_sleeper : Table
-table_sleeper = table_of 1 0 (line 10 20 0 ∷ [])
-
-abbrev pub sleeper : ℕ → List Event
-sleeper n = wake 0 ∷ dispatch 0 ∷ Elapse 6 ∷ suspend 0 ∷ Elapse n ∷ wake 0 ∷ []
-
--- a label task that works for a tick and sleeps for two, over and over
-abbrev pub table_label : Table
-table_label = table_of 1 0 (line 2 20 0 ∷ [])
-
-abbrev pub waking_often : List Event
-waking_often =
-    wake 0 ∷ dispatch 0 ∷ Elapse 1 ∷ suspend 0 ∷ Elapse 2 ∷ wake 0 ∷ dispatch 0 ∷ Elapse 1 ∷ suspend 0 ∷ Elapse 2 ∷ wake 0 ∷ dispatch 0 ∷ Elapse 1 ∷ []
-
 abbrev pub table : List Example
 table =
     prints (trace_of table_r events_r) "1 ok 1\n2 executes 2\n3 granted 0\n4 ok 1\n5 executes 0\n6 ok 0\n7 waits 2\n8 ok 1\n9 ok 1\n10 executes 1\n11 refused 14\n12 ok 0\n13 passed 0\n14 freed 0\n15 ok 1\n16 refused 7\nend 7\nserver 0 idle 3 20 2 1 4\nserver 1 running 7 26 1 0 0\nserver 2 recharging 0 30 6 0 0\ntask 0 2\ntask 1 1\ntask 2 7\n"
@@ -95,9 +80,4 @@ table =
     ∷ bounds three_tasks 2 1000000 (bounded.Bound 19 6)
     ∷ bounds three_tasks 0 3 (bounded.Refused 46)
     ∷ bounds three_tasks 0 4 (bounded.Bound 4 4)
-    -- request 02: 4 left and the deadline 20. At 11 both stay, since 80 < 90; at 12 they do not, since 80 ≥ 80
-    ∷ prints (trace_of table_sleeper (sleeper 5)) "1 ok 1\n2 executes 0\n3 ok 0\n4 ok 1\n5 ok 0\n6 ok 1\nend 11\nserver 0 active 4 20 6 0 0\ntask 0 6\n"
-    ∷ prints (trace_of table_sleeper (sleeper 6)) "1 ok 1\n2 executes 0\n3 ok 0\n4 ok 1\n5 ok 0\n6 ok 1\nend 12\nserver 0 active 10 32 6 0 0\ntask 0 6\n"
-    -- before it, waking every few ticks bought time: 60 is above 54; now 40 is not
-    ∷ spends table_label waking_often 0 (60, 54) (40, 54)
     ∷ []

@@ -76,7 +76,10 @@ runs =
     ∷ leads table_nested (nesting ++ unlock 0 1 ∷ unlock 0 0 ∷ []) (Freed 0) (Running ∷ []) (on 0 ∷ [])
     -- not Recharging, though the deadline is to come too
     ∷ leads table_two (wake 0 ∷ recharge 0 ∷ []) (Refused 13) (Active ∷ Idle ∷ []) (Nowhere ∷ Nowhere ∷ [])
-    -- a recharged server has its budget anew and a deadline from now on; a preempted one keeps both
+    -- a woken server has its budget anew and a deadline from now on
+    ∷ prints (trace_of table_two (wake 1 ∷ dispatch 1 ∷ Elapse 4 ∷ suspend 1 ∷ Elapse 1 ∷ wake 1 ∷ []))
+    "1 ok 1\n2 executes 1\n3 ok 0\n4 ok 1\n5 ok 0\n6 ok 1\nend 5\nserver 0 idle 2 0 0 0 0\nserver 1 active 9 25 4 0 0\ntask 0 0\ntask 1 4\n"
+    -- so has a recharged one; a preempted one keeps both
     ∷ prints (trace_of table_two (wake 0 ∷ dispatch 0 ∷ Elapse 2 ∷ Elapse 21 ∷ recharge 0 ∷ []))
     "1 ok 1\n2 executes 0\n3 ok 1\n4 ok 0\n5 ok 1\nend 23\nserver 0 active 2 43 2 0 0\nserver 1 idle 9 0 0 0 0\ntask 0 2\ntask 1 0\n"
     ∷ prints (trace_of table_two (wake 1 ∷ dispatch 1 ∷ Elapse 4 ∷ preempt 1 ∷ []))

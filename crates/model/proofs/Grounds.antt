@@ -25,8 +25,7 @@ Grounds st (Dispatch s) = (here st s.0 ≡ true) × (active (server_at st s.0).p
 Grounds st (Preempt s) = (here st s.0 ≡ true) × (running (server_at st s.0).phase ≡ true)
 Grounds st (Elapse n) =
     (1 ≤ n) × (st.clock + n ≤ clock_limit) × ((s : ℕ) → here st s ≡ true → running_at st s ≡ true → n ≤ (server_at st s).budget)
-Grounds st (Recharge s) =
-    (here st s.0 ≡ true) × (recharging (server_at st s.0).phase ≡ true) × ((server_at st s.0).deadline ≤ st.clock)
+Grounds st (Recharge s) = (here st s.0 ≡ true) × (recharging (server_at st s.0).phase ≡ true)
 Grounds st (Lock t r) =
     (here st t.0 ≡ true) ×
     (present st r ≡ true) ×
@@ -62,12 +61,7 @@ grounds st (Elapse n) h =
           ).holds
           (not-false _ (none_fails _ _ _ h12)),
     )
-grounds st (Recharge s) h =
-    let h13 = none_later _ _ _ h in (
-      not-false _ (none_fails _ _ _ h),
-      not-false _ (none_fails _ _ _ h13),
-      ltb-false st.clock (server_at st s.0).deadline (none_fails _ _ _ (none_later _ _ _ h13)),
-    )
+grounds st (Recharge s) h = (not-false _ (none_fails _ _ _ h), not-false _ (none_fails _ _ _ (none_later _ _ _ h)))
 grounds st (Lock t r) h =
     let h3 = none_later _ _ _ h in
     let h4 = none_later _ _ _ h3 in

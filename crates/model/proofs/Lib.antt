@@ -7,5 +7,4 @@ pub mod Boxes
 pub mod Variants
 pub mod Stalled
 pub mod Grounds
-pub mod Waking
 pub mod Refused

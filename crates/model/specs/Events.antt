@@ -1,6 +1,6 @@
 -- What each event changes, before rule H: rules 7.1 to 7.10, and the accounts of rule 8.1. A new entry is a function of its number and of the state
 -- before, so that entries not in use stay as they are (rule 1.7). Assumes nothing.
-use Rattle.std.specs.Prelude.{Bool, not, ◌&&◌, ◌||◌, List, ℕ, ◌+◌, ◌-◌, ◌*◌, leb, eqb, get_or, set}
+use Rattle.std.specs.Prelude.{Bool, not, ◌&&◌, ◌||◌, List, ℕ, ◌+◌, ◌-◌, eqb, get_or, set}
 use Rattle.laws.specs.Tests.{if◌then◌else◌}
 use Rattle.laws.specs.Loops.{set_to}
 use Rattle.model.specs.declared.TaskNo.{TaskNo}
@@ -54,21 +54,12 @@ server_by st f s = if here st s then f s else server_at st s
 unfoldable pub each_server : State → (ServerNumber → Server) → State
 each_server st f = with_servers (set_to places (server_by st f) st.server) st
 
--- rule 7.1: a wake at this time fills the server anew: its deadline has come, or what is left of its budget is no less than its share, Q in P, of the time
--- until then
-unfoldable pub refills_at : ℕ → Server → Bool
-refills_at clock s = leb s.deadline clock || leb ((s.deadline - clock) * s.quota) (s.budget * s.period)
-
--- rule 7.1: a server that wakes at this time is Active; if not filled anew, it has the budget and the deadline that it had
-unfoldable pub woken_at : ℕ → Server → Server
-woken_at clock s = if refills_at clock s then refilled Active clock s else with_phase Active s
-
--- rule 7.1, wake t: the Idle servers that serve t wake, and t is ready
+-- rule 7.1, wake t: the Idle servers that serve t become Active, filled anew, and t is ready
 unfoldable pub wakes : State → TaskNumber → ServerNumber → Bool
 wakes st t s = here st s && idle (server_at st s).phase && eqb (served st s) t
 
 unfoldable pub woken_server : State → TaskNumber → ServerNumber → Server
-woken_server st t s = if wakes st t s then woken_at st.clock (server_at st s) else server_at st s
+woken_server st t s = if wakes st t s then refilled Active st.clock (server_at st s) else server_at st s
 
 unfoldable pub woken : State → TaskNumber → State
 woken st t = with_task t (with_mode Ready (task_at st t)) (each_server st (woken_server st t))

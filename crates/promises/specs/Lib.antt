@@ -4,5 +4,4 @@ pub mod Demand2
 pub mod Demand3
 pub mod Paper
 pub mod Stalled
-pub mod Share
 pub mod Unique

@@ -3,14 +3,12 @@
 -- a set is the same one in both; and then the executors are. Each rule cites that by what it names. Assumes nothing.
 use Rattle.theory.proofs.Kit.{◌≡◌, refl, sym, ap, ◌∙◌, Bool, true, false, ◌⊎◌, inl, inr, ⊎_elim, ℕ, ◌+◌, ◌-◌, eqb, eqb-true, eqb-false}
 use Rattle.laws.proofs.Cases.{split, holds_fails}
-use Rattle.laws.proofs.Reflect.{reflects_dec}
 use Rattle.theory.proofs.Declared.{Suspended, Ready, Waiting, Server, Task, Resource, State}
 use Rattle.model.specs.State.{nobody, server_at, task_at, resource_at, here, present, idle, recharging, suspended, awaited, owner_no, owner_of, next, served, running_at, running_for, executor_of, executing}
 use Rattle.model.specs.RuleH.{budget_at, chosen, runs_in, with_runs}
 use Rattle.model.specs.Events.{with_mode, runs_out, ticked_task, pushed, popped}
 use Rattle.model.proofs.Chain.{same_served}
 use Rattle.model.proofs.Chosen.{chosen_alone}
-use Rattle.model.proofs.Waking.{refills_fact}
 use Rattle.theory.specs.Runs.{SameInUse}
 use Rattle.theory.specs.Rules.{TaskIs, Rest, ExecutorsStay, Only, Nothing, Dispatched, Preempted, Elapsed, Recharged, Slept, Woken, Granted, LockedBehind, Freed, Passed}
 use Rattle.theory.proofs.Readings.{for_here}
@@ -234,14 +232,7 @@ module _ (st : State) where
       (λ c z. (z.rest, z.executors))
       (λ s u.
       at_both
-      (at_only j (served st s)
-      (λ q.
-      at_test (idle (server_at st s).phase) true
-      (λ h c d x y.
-      ⊎_elim
-      (λ r. x.fills s (u, q) h r ∙ sym (y.fills s (u, q) h r))
-      (λ n. x.leaves s (u, q) h n ∙ sym (y.leaves s (u, q) h n))
-      (reflects_dec (refills_fact st.clock (server_at st s)))))))
+      (at_only j (served st s) (λ q. at_test (idle (server_at st s).phase) true (λ h c d x y. x.set s (u, q) h ∙ sym (y.set s (u, q) h)))))
       (λ t u. at_only j t (λ q. (with_mode Ready (task_at st j), λ c z. rw q z.wakes))) (λ r u. inr (λ q. q)) (λ t u. inr (λ q. q)) a b
 
   pub granted_fixed : (a b : State) (t r : ℕ) → Granted st a t r → Granted st b t r → SameInUse a b

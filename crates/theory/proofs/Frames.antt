@@ -3,15 +3,15 @@
 -- `task_after`, `resource_after`. What no rewriting touches no event touches: fields (`servers_left`, `tasks_left`), the counts
 -- (`heads_kept`), the clock but for an elapse, the arrays' sixteen places (`changed_shaped`). What no event reaches stays: entries past the counts
 -- (`past_kept` in Outcomes.antt), and the entries of other groups (Locality.antt). Assumes nothing.
-use Rattle.theory.proofs.Kit.{◌≡◌, refl, sym, ap, subst, ◌∙◌, true, false, ◌||◌, ◌&&◌, ◌⊎◌, inl, inr, ⊎_elim, ℕ, ◌<◌, ◌≤◌, arith, eqb, length, get_or, set, length-set, eqb-true, eqb-false}
-use Rattle.laws.proofs.Cases.{split, if_yes, if_no, and_right}
+use Rattle.theory.proofs.Kit.{◌≡◌, refl, sym, ap, subst, ◌∙◌, true, false, ◌||◌, ◌&&◌, ◌⊎◌, inl, inr, ⊎_elim, ℕ, ◌<◌, arith, eqb, length, get_or, set, length-set, eqb-true, eqb-false}
+use Rattle.laws.proofs.Cases.{split, holds_fails, if_yes, if_no, and_right}
 use Rattle.laws.proofs.Lists.{store_cases}
 use Rattle.laws.proofs.Set.{length_set_to, each_cases}
-use Rattle.theory.proofs.Declared.{TaskNo, Phase, Idle, Active, Running, Recharging, Mode, Suspended, Ready, Waiting, Runs, Nobody, By, Server, Task, Resource, State, Event, Wake, Suspend, Dispatch, Preempt, Elapse, Recharge, Lock, Unlock}
+use Rattle.theory.proofs.Declared.{TaskNo, Phase, Idle, Active, Running, Mode, Suspended, Ready, Waiting, Runs, Nobody, By, Server, Task, Resource, State, Event, Wake, Suspend, Dispatch, Preempt, Elapse, Recharge, Lock, Unlock}
 use Rattle.model.specs.State.{places, no_server, no_task, no_resource, server_at, task_at, resource_at, in_use, here, present, idle, active, running, suspended, owned, served}
 use Rattle.model.specs.Shape.{Shaped}
 use Rattle.model.specs.RuleH.{with_runs, settled}
-use Rattle.model.specs.Events.{with_server, with_task, with_phase, refilled, with_mode, server_by, each_server, refills_at, woken_at, wakes, woken_server, woken, rests, rested_server, rested, slept, phased, spent_server, ticked_task, task_by, elapsed, recharged_phase, recharged, pushed, popped, with_owner, enqueued, dequeued, first_waiter, granted, joined, rested_end, locked, freed, passed, unlocked, changed, acting, with_servers}
+use Rattle.model.specs.Events.{with_server, with_task, with_phase, refilled, with_mode, server_by, each_server, wakes, woken_server, woken, rests, rested_server, rested, slept, phased, spent_server, ticked_task, task_by, elapsed, recharged_phase, recharged, pushed, popped, with_owner, enqueued, dequeued, first_waiter, granted, joined, rested_end, locked, freed, passed, unlocked, changed, acting, with_servers}
 use Rattle.model.specs.Step.{state_after}
 use Rattle.model.proofs.RuleH.{settled_field}
 use Rattle.model.proofs.Boxes.{dequeued_long}
@@ -83,18 +83,6 @@ clock_kept st (Recharge s) other = refl
 clock_kept st (Lock t r) other = split (owned (resource_at st r).owner) (λ y. rw (y, rests_alone (joined st t.0 r) t.0)) (λ n. rw n)
 clock_kept st (Unlock t r) other = split (eqb (resource_at st r).waiting 0) (λ y. rw y) (λ n. rw n)
 
--- and not back
-pub clock_on : (st : State) (e : Event) → st.clock ≤ (changed st e).clock
-unfolding woken slept rested each_server phased elapsed recharged
-clock_on st (Wake t) = omega arith
-clock_on st (Suspend t) = omega arith
-clock_on st (Dispatch s) = omega arith
-clock_on st (Preempt s) = omega arith
-clock_on st (Elapse n) = omega arith
-clock_on st (Recharge s) = omega arith
-clock_on st (Lock t r) = omega (arith, clock_kept st (Lock t r) (λ n q. let z : ◌≡◌ {A = ℕ} 0 1 = cc in omega arith))
-clock_on st (Unlock t r) = omega (arith, clock_kept st (Unlock t r) (λ n q. let z : ◌≡◌ {A = ℕ} 0 1 = cc in omega arith))
-
 -- which servers an event reaches
 abbrev pub ServerReached : State → Event → ℕ → Type 0
 ServerReached st (Wake t) i = (here st i ≡ true) × (served st i ≡ t.0)
@@ -107,22 +95,10 @@ ServerReached st (Lock t r) i =
     (here st i ≡ true) × (owned (resource_at st r).owner ≡ true) × (served (joined st t.0 r) i ≡ served (joined st t.0 r) t.0)
 ServerReached st (Unlock t r) i = ⊥
 
--- why a server with the budget and the deadline that it had comes to a phase: to rest; awake, where a wake does not fill it anew or it is preempted; Running,
--- where it is dispatched
-abbrev pub PhaseBy : State → Event → ℕ → Phase → Type 0
-PhaseBy st e i Idle = Unit {0}
-PhaseBy st e i Active = (refills_at st.clock (server_at st i) ≡ false) ⊎ (e ≡ Preempt (record { 0 = i }))
-PhaseBy st e i Running = e ≡ Dispatch (record { 0 = i })
-PhaseBy st e i Recharging = ⊥
-
--- why it is filled anew: a wake does so, or it is recharged
-abbrev pub RefillBy : State → Event → ℕ → Type 0
-RefillBy st e i = (refills_at st.clock (server_at st i) ≡ true) ⊎ (e ≡ Recharge (record { 0 = i }))
-
 -- what it makes of a server, a task, a resource
 pub data ServerMade (st : State) (e : Event) (i : ℕ) (x : Server) : Type 0 where
-  in_phase : (p : Phase) → x ≡ with_phase p (server_at st i) → PhaseBy st e i p → ServerMade st e i x
-  refills : (p : Phase) → x ≡ refilled p st.clock (server_at st i) → running p ≡ false → RefillBy st e i → ServerMade st e i x
+  in_phase : (p : Phase) → x ≡ with_phase p (server_at st i) → (running p ≡ true → e ≡ Dispatch (record { 0 = i })) → ServerMade st e i x
+  refills : (p : Phase) → x ≡ refilled p st.clock (server_at st i) → running p ≡ false → ServerMade st e i x
   spends : (n : ℕ) → x ≡ spent_server st n i → e ≡ Elapse n → ServerMade st e i x
 
 pub data TaskMade (st : State) (e : Event) (i : ℕ) (x : Task) : Type 0 where
@@ -192,19 +168,8 @@ module _ (st : State) where
   put_after e s x new i = ⊎_elim (λ c. rw (c.1, c.0) new) (λ c. inl c) (store_cases st.server s x no_server i)
 
   woken_after : (t : TaskNo) (s : ℕ) → here st s ≡ true → ServerAfter st (Wake t) s (woken_server st t.0 s)
-  unfolding woken_server woken_at
-  woken_after t s h =
-      split
-      (wakes st t.0 s)
-      (λ y.
-      inr (
-        (h, wakes_serves st t.0 s y),
-        split
-            (refills_at st.clock (server_at st s))
-            (λ f. refills Active (rw (y, f)) refl (inl f))
-            (λ f. in_phase Active (rw (y, f)) (inl f)),
-      ))
-      (λ n. inl (rw n))
+  unfolding woken_server
+  woken_after t s h = split (wakes st t.0 s) (λ y. inr ((h, wakes_serves st t.0 s y), refills Active (rw y) refl)) (λ n. inl (rw n))
 
   rested_after : (t : TaskNo) (r i : ℕ) → owned (resource_at st r).owner ≡ true → ServerAfter st (Lock t r) i (server_at (rested_end (joined st t.0 r) t.0) i)
   unfolding rested_end joined here
@@ -215,7 +180,7 @@ module _ (st : State) where
       rw y
       (⊎_elim
       (λ c. inl c)
-      (λ c. inr ((c.1, taken, c.2), in_phase Idle c.0 tt))
+      (λ c. inr ((c.1, taken, c.2), in_phase Idle c.0 (λ z. holds_fails z refl)))
       (rest_cases (joined st t.0 r) (served (joined st t.0 r) t.0) i)))
       (λ n. rw n (inl refl))
 
@@ -223,13 +188,13 @@ module _ (st : State) where
   unfolding woken slept phased elapsed recharged recharged_phase locked unlocked granted freed passed
   server_after (Wake t) i = each_after (Wake t) (woken_server st t.0) (woken_after t) i
   server_after (Suspend t) i =
-      ⊎_elim (λ c. inl c) (λ c. inr ((c.1, c.2), in_phase Idle c.0 tt)) (rest_cases st t.0 i)
-  server_after (Dispatch s) i = put_after (Dispatch s) s.0 _ (inr (refl, in_phase Running refl refl)) i
-  server_after (Preempt s) i = put_after (Preempt s) s.0 _ (inr (refl, in_phase Active refl (inr refl))) i
+      ⊎_elim (λ c. inl c) (λ c. inr ((c.1, c.2), in_phase Idle c.0 (λ z. holds_fails z refl))) (rest_cases st t.0 i)
+  server_after (Dispatch s) i = put_after (Dispatch s) s.0 _ (inr (refl, in_phase Running refl (λ z. refl))) i
+  server_after (Preempt s) i = put_after (Preempt s) s.0 _ (inr (refl, in_phase Active refl (λ z. holds_fails z refl))) i
   server_after (Elapse n) i = each_after (Elapse n) (spent_server st n) (λ s h. inr (h, spends n refl refl)) i
   server_after (Recharge s) i =
       put_after (Recharge s) s.0 _
-      (inr (refl, refills (recharged_phase st s.0) refl (split (suspended (task_at st (served st s.0)).mode) (λ y. rw y) (λ n. rw n)) (inr refl)))
+      (inr (refl, refills (recharged_phase st s.0) refl (split (suspended (task_at st (served st s.0)).mode) (λ y. rw y) (λ n. rw n))))
       i
   server_after (Lock t r) i =
       split
@@ -310,7 +275,7 @@ module _
   where
     server_left : {x : Server} → ServerMade st e i x → f x ≡ f (server_at st i)
     server_left (in_phase p q d) = ap f q ∙ phase p (server_at st i)
-    server_left (refills p q n d) = ap f q ∙ refill p st.clock (server_at st i)
+    server_left (refills p q n) = ap f q ∙ refill p st.clock (server_at st i)
     server_left (spends n q d) = ap f q ∙ spent n i d
 
     pub servers_left : f (server_at (state_after st e) i) ≡ f (server_at st i)

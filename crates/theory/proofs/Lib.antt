@@ -33,4 +33,3 @@ pub mod Unread
 pub mod InUse
 pub mod Fixed
 pub mod Stalled
-pub mod Share

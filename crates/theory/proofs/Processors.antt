@@ -6,7 +6,7 @@ use Rattle.laws.specs.Tests.{if◌then◌else◌, first_of}
 use Rattle.laws.specs.Loops.{count_to}
 use Rattle.laws.proofs.Cases.{holds_fails, and_left, and_right, and_both, none_fails, none_later}
 use Rattle.laws.proofs.Count.{bit_le, count_ext, count_mono, count_but_one}
-use Rattle.theory.proofs.Declared.{Phase, Idle, Active, Running, Recharging, ServerNo, Server, State, Event, Wake, Suspend, Dispatch, Preempt, Elapse, Recharge, Lock, Unlock}
+use Rattle.theory.proofs.Declared.{Phase, Running, Recharging, ServerNo, Server, State, Event, Wake, Suspend, Dispatch, Preempt, Elapse, Recharge, Lock, Unlock}
 use Rattle.model.specs.State.{places, no_server, server_at, here, running, running_at}
 use Rattle.model.specs.RuleH.{settled}
 use Rattle.model.specs.Events.{with_phase, phased, runs_out, spent_server, changed, acting}
@@ -15,7 +15,7 @@ use Rattle.model.proofs.Chain.{here_below}
 use Rattle.model.proofs.Sound.{Seated}
 use Rattle.model.proofs.RuleH.{settled_running}
 use Rattle.model.proofs.Grounds.{Grounds}
-use Rattle.theory.proofs.Frames.{heads_here, heads_kept, PhaseBy, ServerMade, in_phase, refills, spends, server_after}
+use Rattle.theory.proofs.Frames.{heads_here, heads_kept, ServerMade, in_phase, refills, spends, server_after}
 use Rattle.theory.proofs.Outcomes.{stepped_has}
 
 still_running : (b : Bool) (p q : Phase) → running p ≡ false → running (if b then p else q) ≡ true → running q ≡ true
@@ -23,16 +23,10 @@ still_running true p q n h = holds_fails h n
 still_running false p q n h = h
 
 module _ (st : State) (e : Event) where
-  dispatched : (s : ℕ) (p : Phase) → running p ≡ true → PhaseBy st e s p → e ≡ Dispatch (record { 0 = s })
-  dispatched s Idle r d = holds_fails r refl
-  dispatched s Active r d = holds_fails r refl
-  dispatched s Running r d = d
-  dispatched s Recharging r d = absurd d
-
   ran : (s : ℕ) {x : Server} → ServerMade st e s x → running x.phase ≡ true → (running (server_at st s).phase ≡ true) ⊎ (e ≡ Dispatch (record { 0 = s }))
   unfolding spent_server
-  ran s (in_phase p q d) h = inr (dispatched s p (ap (λ z. running z.phase) (sym q) ∙ h) d)
-  ran s (refills p q n d) h = holds_fails (ap (λ z. running z.phase) (sym q) ∙ h) n
+  ran s (in_phase p q d) h = inr (d (ap (λ z. running z.phase) (sym q) ∙ h))
+  ran s (refills p q n) h = holds_fails (ap (λ z. running z.phase) (sym q) ∙ h) n
   ran s (spends n q d) h = inl (still_running (runs_out st n s) Recharging (server_at st s).phase refl (ap (λ z. running z.phase) (sym q) ∙ h))
 
   ran_by : (s : ℕ) → running_at (changed st e) s ≡ true → (running_at st s ≡ true) ⊎ (e ≡ Dispatch (record { 0 = s }))

@@ -3,13 +3,11 @@ use Rattle.theory.proofs.Kit.{◌≡◌, refl, sym, ap, ◌∙◌, true, false, 
 use Rattle.laws.specs.Tests.{if◌then◌else◌}
 use Rattle.laws.proofs.Cases.{split, holds_fails, unheld_fails, unfailed_holds}
 use Rattle.laws.proofs.Lists.{get_d_set}
-use Rattle.laws.proofs.Reflect.{reflects_false}
 use Rattle.theory.proofs.Declared.{Phase, Idle, Active, Running, Recharging, Suspended, Ready, Server, Task, State, Event, Wake, Suspend}
 use Rattle.model.specs.State.{no_task, server_at, task_at, here, idle, active, running, recharging, served, running_for}
-use Rattle.model.specs.Events.{with_task, with_phase, refilled, with_mode, each_server, refills_at, woken_at, wakes, woken_server, woken, rests, rested_server, rested, slept, changed}
+use Rattle.model.specs.Events.{with_task, with_phase, refilled, with_mode, each_server, wakes, woken_server, woken, rests, rested_server, rested, slept, changed}
 use Rattle.model.specs.Step.{state_after, stepped}
 use Rattle.model.proofs.Chain.{here_below}
-use Rattle.model.proofs.Waking.{refills_fact}
 use Rattle.theory.specs.Rules.{Proper, Rest, ExecutorsStay, TaskIs, Only, Nothing, Slept, Woken, ExecutesNowhere}
 use Rattle.theory.proofs.Serving.{each_at}
 use Rattle.theory.proofs.Steps.{properly, after_server, task_is, rest_by, ends_stay, same_for, executor_lost, executor_same, executors_stay}
@@ -26,20 +24,6 @@ at_rest x f g = ap (λ p. with_phase p x) (idles x.phase f g)
     idles Active f g = holds_fails refl f
     idles Running f g = holds_fails refl f
     idles Recharging f g = holds_fails refl g
-
--- rule 7.1: a server that wakes is Active, filled anew or as it was
-module _ (clock : ℕ) (x : Server) where
-  wakes_filled : refills_at clock x ≡ true → woken_at clock x ≡ refilled Active clock x
-  unfolding woken_at
-  wakes_filled y = rw y
-
-  wakes_left : refills_at clock x ≡ false → woken_at clock x ≡ with_phase Active x
-  unfolding woken_at
-  wakes_left n = rw n
-
-  waking_stands : running (woken_at clock x).phase ≡ false
-  unfolding woken_at
-  waking_stands = split (refills_at clock x) (λ y. rw y) (λ n. rw n)
 
 module _ (st : State) (t s : ℕ) (used : here st s ≡ true) where
   pub rested_set : served st s ≡ t → recharging (server_at st s).phase ≡ false → rested_server st t s ≡ with_phase Idle (server_at st s)
@@ -70,7 +54,7 @@ module _ (st : State) (t s : ℕ) (used : here st s ≡ true) where
       (λ y. rw (rested_other (λ q. holds_fails y q.1)) (ap running (recharging_is (server_at st s).phase y)))
       (λ n. rw (rested_set e n))
 
-  woken_set : served st s ≡ t → idle (server_at st s).phase ≡ true → woken_server st t s ≡ woken_at st.clock (server_at st s)
+  woken_set : served st s ≡ t → idle (server_at st s).phase ≡ true → woken_server st t s ≡ refilled Active st.clock (server_at st s)
   unfolding woken_server wakes
   woken_set e i = rw (used, i, eq-eqb _ t e)
 
@@ -84,21 +68,16 @@ module _ (st : State) (t s : ℕ) (used : here st s ≡ true) where
 
   -- an Idle server that is Active now runs neither before nor after
   woken_phase : running (woken_server st t s).phase ≡ running (server_at st s).phase
+  unfolding woken_server wakes
   woken_phase =
       split
       (idle (server_at st s).phase)
       (λ i.
       split
       (eqb (served st s) t)
-      (λ y.
-      ap (λ (x : Server). running x.phase) (woken_set (eqb-true _ t y) i)
-      ∙ waking_stands st.clock (server_at st s)
-      ∙ sym (ap running (idle_is (server_at st s).phase i)))
-      (λ n. still (λ q. eqb-false _ t n q.0)))
-      (λ n. still (λ q. holds_fails q.1 n))
-    where
-      still : ((served st s ≡ t) × (idle (server_at st s).phase ≡ true) → ⊥) → running (woken_server st t s).phase ≡ running (server_at st s).phase
-      still n = ap (λ (x : Server). running x.phase) (woken_other n)
+      (λ y. rw (used, i, y) (sym (ap running (idle_is (server_at st s).phase i))))
+      (λ n. rw (used, i, n)))
+      (λ n. rw (used, n))
 
 -- an event that makes every server anew and stores task j
 module _
@@ -141,14 +120,7 @@ module _ (st : State) (j : ℕ) (w : Way st (Wake (record { 0 = j }))) where
   wakes_all = record {
     rest =
         stirred st j e w (woken_server st j) k w.ground.0 refl (λ s. (served st s ≡ j) × (idle (server_at st s).phase ≡ true)) (woken_other st j);
-    fills = λ s i y r.
-        at s i.0
-        ∙ woken_set st j s i.0 i.1 y
-        ∙ wakes_filled st.clock (server_at st s) ((refills_fact st.clock (server_at st s)).test r);
-    leaves = λ s i y n.
-        at s i.0
-        ∙ woken_set st j s i.0 i.1 y
-        ∙ wakes_left st.clock (server_at st s) (reflects_false (refills_fact st.clock (server_at st s)) n);
+    set = λ s i y. at s i.0 ∙ woken_set st j s i.0 i.1 y;
     wakes = stored st j e w (woken_server st j) k w.ground.0 refl;
     ends = ends_stay st e w tt;
     executors = executors_stay st e w tt (λ s u. ap (λ (x : Server). running x.phase) (at s u) ∙ woken_phase st j s u);

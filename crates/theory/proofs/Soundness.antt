@@ -90,7 +90,7 @@ kept st e shaped s =
     let a = after_loose st shaped f.is_loose e g in
     (a.0, (sound_facts (state_after st e)).test (record { is_loose = a.1; is_seated = seated_after st e f.is_seated g h }))))
 
-pub always : (st : State) → Shaped st → sound st ≡ true → (es : List Event) → sound (after move st es) ≡ true
+always : (st : State) → Shaped st → sound st ≡ true → (es : List Event) → sound (after move st es) ≡ true
 unfolding after
 always st shaped s [] = s
 always st shaped s (e ∷ es) = let k = kept st e shaped s in always (stepped st e).state k.0 k.1 es

@@ -24,7 +24,7 @@ use Rattle.theory.specs.Rules.{Accounts}
 use Rattle.fresh.proofs.Fresh.{fresh_sound, fresh_shaped}
 use Rattle.theory.proofs.Soundness.{kept, executes_for, servers_count, servers_that_execute}
 use Rattle.theory.proofs.Accounts.{event_adds}
-use Rattle.theory.proofs.Unread.{stepped_here, run_here}
+use Rattle.theory.proofs.Unread.{stepped_here}
 
 -- a sum that grows by k wherever p holds
 sum_grows : (n k : ℕ) (p : ℕ → Bool) (f g : ℕ → ℕ) → ((i : ℕ) → i < n → f i ≡ g i + (if p i then k else 0)) → sum_to n f ≡ sum_to n g + k * count_to n p
@@ -161,6 +161,11 @@ run_each st shaped s [] t u = omega arith
 run_each st shaped s (e ∷ es) t u =
     let k = kept st e shaped s in
     omega (arith, one_grows st s e t u, run_each (stepped st e).state k.0 k.1 es t (stepped_here st e t ∙ u))
+
+run_here : (st : State) (es : List Event) (t : ℕ) → here (after move st es) t ≡ here st t
+unfolding after
+run_here st [] t = refl
+run_here st (e ∷ es) t = run_here (stepped st e).state es t ∙ stepped_here st e t
 
 -- nothing is spent in a fresh state: its clock is 0
 module _ (st : State) (facts : Loose st) (zero-clock : st.clock ≡ 0) where

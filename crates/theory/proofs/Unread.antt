@@ -2,19 +2,18 @@
 -- What is in use is a group, for any labels that give it the number 0: all that soundness asks, each test, the change, rule H and the answer read that
 -- group alone, and most of this is what Locality.antt and Order.antt say of a group. Only the tests and the answer that speak of all servers
 -- (no processor free, an elapse) are compared here. Assumes nothing.
-use Rattle.theory.proofs.Kit.{◌≡◌, refl, sym, ap, ap₂, ◌∙◌, Bool, true, false, not, ◌||◌, List, [], ◌∷◌, ℕ, ◌+◌, arith, ltb, eqb, eq-eqb}
+use Rattle.theory.proofs.Kit.{◌≡◌, refl, sym, ap, ap₂, ◌∙◌, Bool, true, false, not, ◌||◌, List, ◌∷◌, ℕ, ◌+◌, arith, ltb, eqb, eq-eqb}
 use Rattle.laws.specs.Tests.{if◌then◌else◌, ◌when◌or◌, accepted, first_of, without}
 use Rattle.laws.proofs.Cases.{split, holds_fails, unheld_fails, if_yes, first_yes}
 use Rattle.laws.proofs.Count.{count_ext}
 use Rattle.laws.proofs.All.{all_ext}
 use Rattle.reordering.specs.Order.{group, sees}
-use Rattle.reordering.specs.Run.{after}
 use Rattle.theory.proofs.Declared.{State, Event, Wake, Suspend, Dispatch, Preempt, Elapse, Recharge, Lock, Unlock}
 use Rattle.model.specs.State.{places, server_at, task_at, resource_at, here, present, declares, served, running_at, running_for}
 use Rattle.model.specs.Sound.{clock_limit, each, if_here, held_at, queued_at, sound}
 use Rattle.model.specs.Shape.{Shaped}
 use Rattle.model.specs.Events.{runs_out, number_of}
-use Rattle.model.specs.Step.{crowded, affords, tests, stepped, move}
+use Rattle.model.specs.Step.{crowded, affords, tests, stepped}
 use Rattle.model.proofs.Sound.{Loose, sound_facts}
 use Rattle.model.proofs.Grounds.{Grounds, grounds, unrefused_free}
 use Rattle.model.proofs.Stalled.{admitted, admitted_here}
@@ -206,14 +205,9 @@ unread l s u c a shaped other e =
     let m : sound u ≡ false = unheld_fails _ (λ y. holds_fails (sound_both l u s (covers_both l s u c a) (agree_sym l 0 s u a) y) n) in
     rw (n, m) (refl, a))
 
--- what is in use is so after a step and after a run
+-- what is in use is so after a step
 pub stepped_here : (st : State) (e : Event) (i : ℕ) → here (stepped st e).state i ≡ here st i
 stepped_here st e i = stepped_has (λ x. here x i ≡ here st i) st e refl (λ y h. after_here st e i)
-
-pub run_here : (st : State) (es : List Event) (i : ℕ) → here (after move st es) i ≡ here st i
-unfolding after
-run_here st [] i = refl
-run_here st (e ∷ es) i = run_here (stepped st e).state es i ∙ stepped_here st e i
 
 pub stepped_present : (st : State) (e : Event) (r : ℕ) → present (stepped st e).state r ≡ present st r
 stepped_present st e r = stepped_has (λ x. present x r ≡ present st r) st e refl (λ y h. after_present st e r)

@@ -2,7 +2,7 @@
 -- and the paper's rules (document 004, section 5.1), each beside our rule's number and with our rule's difference where there is one. Each fixes the
 -- whole next state: `Rest` says once what stays, and beside it stand the entries that change, the chain ends and the executors. What is not in use
 -- stays in every event (promises.PastKept). Assumes nothing.
-use Rattle.std.specs.Prelude.{◌≡◌, true, false, ◌⊎◌, ℕ, suc, ◌+◌, ◌-◌, ◌*◌, ◌<◌, ◌≤◌}
+use Rattle.std.specs.Prelude.{◌≡◌, true, false, ◌⊎◌, ℕ, suc, ◌+◌, ◌-◌, ◌<◌, ◌≤◌}
 use Rattle.laws.specs.Tests.{if◌then◌else◌}
 use Rattle.laws.specs.Links.{Leads}
 use Rattle.model.specs.declared.Phase.TheVariants.{Idle, Active, Running, Recharging}
@@ -145,22 +145,10 @@ pub record Slept (st after : State) (j : TaskNumber) : Type 0 where
   pub executors : ExecutorsStay st after (Only j)
   pub nowhere : ExecutesNowhere after j
 
--- rule 7.1: what a wake fills anew, with c left of the budget, the deadline d and the clock at t: d ≤ t, or (d − t) × Q ≤ c × P
-abbrev pub Refills : State → ServerNumber → Type 0
-Refills st s =
-    ((server_at st s).deadline ≤ st.clock) ⊎
-    (((server_at st s).deadline - st.clock) * (server_at st s).quota ≤ (server_at st s).budget * (server_at st s).period)
-
--- rule 7.1, waking, by the rule of the constant bandwidth server: the Idle servers of the set are Active again, those to be filled anew with budget Q and
--- deadline clock + P, the others with the budget and the deadline that they had
+-- rule 7.1, waking: the Idle servers of the set are Active again, with budget Q and deadline clock + P
 pub record Woken (st after : State) (j : TaskNumber) : Type 0 where
   pub rest : Rest st after st.clock (λ s. (served st s ≡ j) × (idle (server_at st s).phase ≡ true)) (Only j) Nothing
-  pub fills :
-      (s : ServerNumber) → Inherits st j s → idle (server_at st s).phase ≡ true → Refills st s →
-      server_at after s ≡ refilled Active st.clock (server_at st s)
-  pub leaves :
-      (s : ServerNumber) → Inherits st j s → idle (server_at st s).phase ≡ true → (Refills st s → ⊥) →
-      server_at after s ≡ with_phase Active (server_at st s)
+  pub set : (s : ServerNumber) → Inherits st j s → idle (server_at st s).phase ≡ true → server_at after s ≡ refilled Active st.clock (server_at st s)
   pub wakes : TaskIs after j (with_mode Ready (task_at st j))
   pub ends : EndsStay st after
   pub executors : ExecutorsStay st after Nothing

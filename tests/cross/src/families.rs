@@ -39,7 +39,7 @@ macro_rules! named {
 }
 
 /// Of the states, 20,000 and more are sound and out of reach from fresh, or break one clause alone.
-pub const FAMILIES: [Family; 18] = [
+pub const FAMILIES: [Family; 17] = [
     family("layout of the library", 1, |_, _, _| vec![Case::Layout]),
     named!("case R", "../../../tools/trace/examples/case-r.txt"),
     named!(
@@ -60,7 +60,6 @@ pub const FAMILIES: [Family; 18] = [
     ),
     named!("case 5, three serve one", "../cases/5-three-serve-one.txt"),
     named!("case 6, who may not act", "../cases/6-who-may-not-act.txt"),
-    named!("case 7, waking often", "../cases/7-waking-often.txt"),
     family("made-up sound states", 14_000, states::made_up),
     family("perturbed sound states", 2_500, states::perturbed),
     family("states with one clause broken", 6_300, states::broken),

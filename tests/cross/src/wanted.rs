@@ -1,5 +1,5 @@
 //! What the cases have to reach, and how often: each answer, refusal, stop, clause of soundness,
-//! branch of rule H and kind of deep state, what wakes do, and each kind of damage.
+//! branch of rule H and kind of deep state, and each kind of damage.
 //!
 //! Assumes that the names are those under which the families note what they reach.
 
@@ -8,8 +8,6 @@ use second::generate::damage::Damage;
 
 /// States that break one clause alone, for each clause.
 const PER_CLAUSE: u64 = 100;
-/// Wakes of which each thing is told that is told of woken servers.
-const PER_WOKEN: u64 = 100;
 /// Sound states that no events from fresh reach.
 pub const OUT_OF_REACH: &str = "given state: sound, out of reach from fresh";
 const TIMES_OUT_OF_REACH: u64 = 13_700;
@@ -54,7 +52,6 @@ fn wanted() -> Vec<(String, u64)> {
         OUT_OF_REACH => TIMES_OUT_OF_REACH,
         LITTERED => TIMES_LITTERED,
         _ if name.starts_with("broken alone: ") => PER_CLAUSE,
-        _ if name.starts_with("woken: ") => PER_WOKEN,
         _ => 1,
     };
     let with_times = names.into_iter().map(|name| {

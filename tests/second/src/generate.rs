@@ -9,7 +9,7 @@
 //! - `tables`: `good_table` and `bad_table` for `fresh`;
 //! - `events` and `scenes`: how a run picks its events; `random`: the generator under all of them;
 //! - `coverage` and `survey`: what is to be reached, and how often it is; `acting`: what of it is told
-//!   of tasks that may not act; `waking`: what of it is told of servers that wake.
+//!   of tasks that may not act.
 //!
 //! Assumes only that this program's own steps are right enough to steer by: the generators keep
 //! its state in order to pick events that are mostly enabled. A case is fixed by its seed.
@@ -26,4 +26,3 @@ pub mod sections;
 pub mod states;
 pub mod survey;
 pub mod tables;
-pub mod waking;

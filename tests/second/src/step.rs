@@ -7,7 +7,7 @@
 
 use crate::refusal::{require, Refusal};
 use crate::state::{
-    Execution, Mode, Phase, ResourceNumber, Server, ServerNumber, State, TaskNumber, CLOCK_LIMIT,
+    Execution, Mode, Phase, ResourceNumber, ServerNumber, State, TaskNumber, CLOCK_LIMIT,
     TASK_LIMIT, TICK_LIMIT,
 };
 
@@ -92,9 +92,7 @@ fn wake(state: &mut State, task: TaskNumber) -> Answer {
     let mut woken = 0;
     for server in state.server_numbers() {
         if state[server].phase == Phase::Idle && state.served_by(server) == task {
-            if begins_anew(&state[server], state.clock) {
-                refill(state, server);
-            }
+            refill(state, server);
             state[server].phase = Phase::Active;
             woken += 1;
         }
@@ -240,19 +238,6 @@ fn may_act(state: &State, task: TaskNumber) -> Result<(), Refusal> {
         .server_numbers()
         .any(|server| state[server].phase == Phase::Running && state.served_by(server) == task);
     require(served, Refusal::TaskNotServed)
-}
-
-/// Whether a server that wakes begins a new period (rule 7.1): its deadline has come, or up to the
-/// deadline the budget it has left is its share of the time, Q in P, or more. With less than its share
-/// it goes on with what it has, or sleeping and waking would buy it time.
-fn begins_anew(server: &Server, clock: u32) -> bool {
-    if server.deadline <= clock {
-        return true;
-    }
-    // Either product may come to 10^12.
-    let budget = u64::from(server.budget) * u64::from(server.period);
-    let share = u64::from(server.deadline - clock) * u64::from(server.quota);
-    budget >= share
 }
 
 /// Budget Q and deadline clock + P.

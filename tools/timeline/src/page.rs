@@ -122,10 +122,8 @@ fn signs_below() -> String {
 /// The view's lines of the listing, each with its event in words, and the lines after the last.
 fn listing(run: &Run, plot: &Plot) -> String {
     let mut out = String::from("<ol>\n");
-    for (place, moment) in plot.view.moments.iter().enumerate() {
-        let before = plot.view.before_event(place);
-        let said = words::sentence(moment, before, plot.names);
-        let line = words::line(moment);
+    for moment in plot.view.moments {
+        let (line, said) = (words::line(moment), words::sentence(moment, plot.names));
         out += &format!("<li><b>{line}</b> {}</li>\n", escaped(&said));
     }
     out += "</ol>\n";

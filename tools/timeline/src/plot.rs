@@ -329,12 +329,11 @@ impl<'a> Plot<'a> {
 
     /// A mark's line of the listing, and what happened.
     pub fn told(&self, mark: &Mark) -> String {
-        let place = mark.number - self.view.first;
-        let moment = &self.view.moments[place];
+        let moment = &self.view.moments[mark.number - self.view.first];
         format!(
             "{} · {}",
             words::line(moment),
-            words::sentence(moment, self.view.before_event(place), self.names)
+            words::sentence(moment, self.names)
         )
     }
 

@@ -117,12 +117,6 @@ pub struct View<'a> {
 }
 
 impl View<'_> {
-    /// The state before the event at a place of its moments.
-    pub fn before_event(&self, place: usize) -> &Snapshot {
-        let earlier = place.checked_sub(1).map(|last| &self.moments[last].after);
-        earlier.unwrap_or(self.before)
-    }
-
     /// The state after its last event.
     pub fn last(&self) -> &Snapshot {
         self.moments

@@ -5,7 +5,6 @@
 
 use crate::names::Names;
 use crate::run::{Moment, Stop};
-use crate::snapshot::{Phase, Server, Snapshot};
 use vesztamor::{Answer, Event};
 
 const REFUSALS: &str = include_str!("../../../docs/REFUSALS.md");
@@ -64,8 +63,8 @@ pub fn line(moment: &Moment) -> String {
     format!("{} {}", moment.number, answer(moment.answer))
 }
 
-/// What happened, in a sentence, from the state before the event.
-pub fn sentence(moment: &Moment, before: &Snapshot, names: &Names) -> String {
+/// What happened, in a sentence.
+pub fn sentence(moment: &Moment, names: &Names) -> String {
     match moment.answer {
         Answer::Refused(number) => {
             let when = refusal(number);
@@ -77,10 +76,7 @@ pub fn sentence(moment: &Moment, before: &Snapshot, names: &Names) -> String {
             let wish = wish(moment.event, names);
             format!("refused to {wish}: the task waits for {awaited}")
         }
-        _ => {
-            let led = outcome(moment, before, names);
-            format!("{}{led}", done(moment.event, names))
-        }
+        _ => format!("{}{}", done(moment.event, names), outcome(moment, names)),
     }
 }
 
@@ -124,7 +120,7 @@ fn done(event: Event, names: &Names) -> String {
 }
 
 /// What an accepted event led to.
-fn outcome(moment: &Moment, before: &Snapshot, names: &Names) -> String {
+fn outcome(moment: &Moment, names: &Names) -> String {
     let task = |number: u32| names.task(number as u16);
     match (moment.answer, moment.event) {
         (Answer::Executes(t), _) => format!(" and executes {}", task(t)),
@@ -137,10 +133,7 @@ fn outcome(moment: &Moment, before: &Snapshot, names: &Names) -> String {
         (Answer::Ok(_), Event::Recharge { .. }) => " and is Active".to_string(),
         (Answer::Ok(0) | Answer::Refused(_) | Answer::RefusedWaiting(_), _) => String::new(),
         (Answer::Ok(_), Event::Preempt { .. }) => "; the task goes on elsewhere".to_string(),
-        (Answer::Ok(n), Event::Wake { .. }) => {
-            let each = listed(woken(before, &moment.after, names));
-            format!("; {} Active: {each}", became(n))
-        }
+        (Answer::Ok(n), Event::Wake { .. }) => format!("; {} Active", became(n)),
         (Answer::Ok(n), Event::Suspend { .. }) => format!("; {} Idle", became(n)),
         (Answer::Ok(1), _) => "; 1 server runs out".to_string(),
         (Answer::Ok(n), _) => format!("; {n} servers run out"),
@@ -154,23 +147,7 @@ fn became(servers: u32) -> String {
     }
 }
 
-/// What a wake did to each server that it made Active: one whose budget and deadline are as they
-/// were has kept them.
-fn woken(before: &Snapshot, after: &Snapshot, names: &Names) -> Vec<String> {
-    let pairs = before.servers.iter().zip(&after.servers);
-    let told = |(number, (was, is)): (u16, (&Server, &Server))| {
-        let who = names.server(number);
-        let kept = (was.budget, was.deadline) == (is.budget, is.deadline);
-        let woke = (was.phase, is.phase) == (Phase::Idle, Phase::Active);
-        woke.then(|| match kept {
-            true => format!("{who} keeps budget {}", is.budget),
-            false => format!("{who} is filled anew"),
-        })
-    };
-    (0..).zip(pairs).filter_map(told).collect()
-}
-
-/// Names, or what is told of each, in a row.
+/// Names in a row.
 pub fn listed(names: impl IntoIterator<Item = String>) -> String {
     names.into_iter().collect::<Vec<String>>().join(", ")
 }

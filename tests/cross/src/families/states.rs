@@ -15,7 +15,6 @@ use second::generate::coverage::Coverage;
 use second::generate::events::{next_event, possible_events, Kind, Manner};
 use second::generate::random::Random;
 use second::generate::states::{broken_state, perturbed_state, sound_state, tangled_state};
-use second::generate::waking::Origin;
 use second::image::{decode, encode, write, STATE_BYTES};
 use second::library::{meter, METER_ROW_BYTES};
 use second::state::{fresh, Clause, Execution, ServerNumber, State, TaskNumber, TASK_LIMIT};
@@ -183,7 +182,7 @@ fn noted_step(coverage: &mut Coverage, bytes: &[u8], state: Option<&State>, even
     if let Some(before) = state {
         let mut after = *before;
         let answer = step(&mut after, event);
-        coverage.note_step(Origin::Given, before, event, answer, &after);
+        coverage.note_step(before, event, answer, &after);
     } else {
         coverage.note("step on no state's bytes".to_string());
     }

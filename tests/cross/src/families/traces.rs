@@ -9,7 +9,6 @@ use second::generate::coverage::Coverage;
 use second::generate::damage::{damaged_trace, trace_with, Damage};
 use second::generate::random::Random;
 use second::generate::runs::Run;
-use second::generate::waking::Origin;
 use second::image::encode;
 use second::library::METER_ROW_BYTES;
 use second::replay::replay;
@@ -21,11 +20,11 @@ const LONGEST: usize = 100;
 /// In a damaged trace the events before the fault matter less.
 const LONGEST_DAMAGED: usize = 30;
 
-/// A step of the second program on a run from fresh, noted.
+/// A step of the second program, noted.
 pub fn noted_step(coverage: &mut Coverage, state: &mut State, event: Event) {
     let before = *state;
     let answer = step_sound(state, event);
-    coverage.note_step(Origin::Fresh, &before, event, answer, state);
+    coverage.note_step(&before, event, answer, state);
 }
 
 /// A scene and up to so many random events after it.

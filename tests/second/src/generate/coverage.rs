@@ -6,7 +6,6 @@
 
 use super::acting;
 use super::events::Kind;
-use super::waking::{self, Origin};
 use crate::refusal::Refusal;
 use crate::state::{
     Clause, Mode, Phase, ResourceNumber, ServerNumber, State, TaskNumber, RESOURCE_LIMIT,
@@ -126,14 +125,7 @@ impl Coverage {
         }
     }
 
-    pub fn note_step(
-        &mut self,
-        origin: Origin,
-        before: &State,
-        event: Event,
-        answer: Answer,
-        after: &State,
-    ) {
+    pub fn note_step(&mut self, before: &State, event: Event, answer: Answer, after: &State) {
         let kind = Kind::of(event).word();
         match answer {
             Err(refusal) => {
@@ -144,9 +136,6 @@ impl Coverage {
             }
             Ok(outcome) => {
                 self.note(answer_name(kind, outcome));
-                for name in waking::names(origin, before, event) {
-                    self.note(name);
-                }
                 self.note_rule_h(before, event, after);
                 self.note_deep(before, event, outcome, after);
             }
@@ -193,7 +182,6 @@ impl Coverage {
             wanted.extend(refusals.iter().map(name));
         }
         wanted.extend(acting::WANTED.map(String::from));
-        wanted.extend(waking::wanted());
         wanted.extend([19, 20, 21].map(|number| format!("fresh refused {number}")));
         wanted.extend([19, 20, 21, 30, 31, 32, 33].map(|number| format!("stop {number}")));
         wanted.extend((40..=46).map(|number| format!("bound refused {number}")));

@@ -3,7 +3,6 @@
 //! Assumes a sound state.
 
 use super::random::Random;
-use super::waking::most_ticks_refilled;
 use crate::state::{
     Mode, Phase, ResourceNumber, ServerNumber, State, TaskNumber, CLOCK_LIMIT, TICK_LIMIT,
 };
@@ -80,8 +79,6 @@ impl Manner {
     const SLEEPY: [u32; 8] = [3, 5, 6, 2, 2, 3, 6, 1];
     /// Locks are handed over.
     const GIVING: [u32; 8] = [4, 1, 8, 3, 2, 6, 4, 10];
-    /// Tasks sleep and wake every few ticks.
-    const DOZING: [u32; 8] = [8, 8, 8, 1, 8, 4, 3, 1];
 
     pub fn any(random: &mut Random) -> Manner {
         let manners = [
@@ -90,7 +87,6 @@ impl Manner {
             Manner::HUNGRY,
             Manner::SLEEPY,
             Manner::GIVING,
-            Manner::DOZING,
         ];
         Manner {
             weights: manners[random.index(manners.len())],
@@ -179,7 +175,7 @@ fn likely_events(state: &State, kind: Kind) -> Vec<Event> {
 }
 
 /// The smallest budget of a Running server.
-pub fn least_budget(state: &State) -> Option<u32> {
+fn least_budget(state: &State) -> Option<u32> {
     state
         .server_numbers()
         .filter(|&server| state[server].phase == Phase::Running)
@@ -187,8 +183,7 @@ pub fn least_budget(state: &State) -> Option<u32> {
         .min()
 }
 
-/// A few ticks, any that can be afforded, just enough to exhaust a server, just enough for a recharge
-/// to be due, and just enough for a wake to be told otherwise.
+/// A few ticks, just enough to exhaust a server, and just enough for a recharge to be due.
 fn good_elapses(random: &mut Random, state: &State) -> Vec<Event> {
     let left = CLOCK_LIMIT - state.clock;
     let affordable = least_budget(state).unwrap_or(TICK_LIMIT).min(left);
@@ -197,7 +192,7 @@ fn good_elapses(random: &mut Random, state: &State) -> Vec<Event> {
     }
     let mut ticks = vec![random.between(1, affordable.min(8))];
     if least_budget(state).is_some() || random.one_in(20) {
-        ticks.extend([affordable, random.between(1, affordable)]);
+        ticks.push(affordable);
     }
     let until_recharge = state
         .server_numbers()
@@ -205,25 +200,7 @@ fn good_elapses(random: &mut Random, state: &State) -> Vec<Event> {
         .map(|server| state[server].deadline.saturating_sub(state.clock))
         .filter(|wait| (1..=affordable).contains(wait));
     ticks.extend(until_recharge.min());
-    ticks.extend(random.pick(&ticks_to_turns(state, affordable)));
     ticks.into_iter().map(Event::Elapse).collect()
-}
-
-/// Ticks, at most so many, up to where a wake would just keep an Idle server, would just refill it, and
-/// to its deadline (rule 7.1).
-pub fn ticks_to_turns(state: &State, most: u32) -> Vec<u32> {
-    let idle = state
-        .server_numbers()
-        .filter(|&server| state[server].phase == Phase::Idle);
-    let turns = idle.flat_map(|server| {
-        let deadline = state[server].deadline;
-        let refilled = deadline.saturating_sub(most_ticks_refilled(&state[server]));
-        [refilled.saturating_sub(1), refilled, deadline]
-    });
-    turns
-        .map(|turn| turn.saturating_sub(state.clock))
-        .filter(|ticks| (1..=most).contains(ticks))
-        .collect()
 }
 
 /// An event that this state refuses; each number there is for its kind is as likely.

@@ -1,11 +1,9 @@
 //! Scenes: short lists of events that lead straight to deep states, such as long chains, waiters
-//! that hold others, sleeping holders, servers that wake just when the answer turns, and servers that
-//! reach 0 together.
+//! that hold others, sleeping holders and servers that reach 0 together.
 //!
 //! Assumes nothing; an event that a scene asks for and the state refuses is kept in the list, as
 //! refused events belong to a run too.
 
-use super::events::{least_budget, ticks_to_turns};
 use super::random::Random;
 use super::tables::{any_counts, good_table, Pace};
 use crate::state::{
@@ -31,8 +29,6 @@ pub enum Scene {
     Forest,
     /// The same, and ends of chains go to sleep.
     Sleepers,
-    /// Ends of chains run for some ticks, sleep for some, and wake.
-    Dozers,
     /// One task holds all resources, and many wait for it, often all in one queue.
     Hoard,
     /// One holder with waiters spinning at the same budget.
@@ -52,7 +48,6 @@ impl Scene {
             Scene::Chain,
             Scene::Forest,
             Scene::Sleepers,
-            Scene::Dozers,
             Scene::Hoard,
             Scene::Together,
         ];
@@ -65,7 +60,6 @@ impl Scene {
             Scene::Chain => chain(random),
             Scene::Forest => forest(random),
             Scene::Sleepers => sleepers(random),
-            Scene::Dozers => dozers(random),
             Scene::Hoard => hoard(random),
             Scene::Together => together(random),
             Scene::Late => late(random),
@@ -115,25 +109,6 @@ impl Director {
     fn first_server(&self, wanted: impl Fn(&State, ServerNumber) -> bool) -> Option<ServerNumber> {
         let mut servers = self.state.server_numbers();
         servers.find(|&server| wanted(&self.state, server))
-    }
-
-    /// Dispatches what serves the task, as far as there are processors.
-    fn dispatch_all(&mut self, task: TaskNumber) {
-        for server in self.state.server_numbers() {
-            let active = self.state[server].phase == Phase::Active;
-            let free = self.state.running_count() < usize::from(self.state.processors);
-            if active && free && self.state.served_by(server) == task {
-                self.act(Event::Dispatch(server));
-            }
-        }
-    }
-
-    /// Lets time pass up to where a wake is just told otherwise, if all Running servers can afford it.
-    fn doze(&mut self, random: &mut Random) {
-        let affordable = least_budget(&self.state).unwrap_or(TICK_LIMIT);
-        if let Some(ticks) = random.pick(&ticks_to_turns(&self.state, affordable)) {
-            self.act(Event::Elapse(ticks));
-        }
     }
 
     fn lock(&mut self, task: TaskNumber, resource: ResourceNumber) {
@@ -227,26 +202,6 @@ fn sleepers(random: &mut Random) -> Director {
             let resource = random.number(0, last_resource);
             director.lock(task, ResourceNumber(resource));
         }
-    }
-    director
-}
-
-fn dozers(random: &mut Random) -> Director {
-    let mut director = forest(random);
-    for _ in 0..random.between(2, 6) {
-        let Some(task) = random.pick(&director.unblocked_tasks()) else {
-            break;
-        };
-        director.bring_to_execute(task);
-        if random.one_in(2) {
-            director.dispatch_all(task);
-        }
-        if let Some(budget @ 2..) = least_budget(&director.state) {
-            director.act(Event::Elapse(random.between(1, budget - 1)));
-        }
-        director.act(Event::Suspend(task));
-        director.doze(random);
-        director.act(Event::Wake(task));
     }
     director
 }

@@ -6,7 +6,6 @@
 
 use super::random::Random;
 use super::tables::{any_counts, good_table, Pace};
-use super::waking::most_ticks_refilled;
 use crate::state::{
     fresh, Clause, Counts, Mode, Phase, Resource, ResourceNumber, Server, ServerNumber, State,
     Task, TaskNumber, CLOCK_LIMIT, PROCESSOR_LIMIT, RESOURCE_LIMIT, TASK_LIMIT, TICK_LIMIT,
@@ -159,20 +158,12 @@ fn choose_phases(random: &mut Random, state: &mut State) {
             _ if even_budget => quota.min(3),
             _ => random.between(1, quota),
         };
-        state[server].deadline = match random.index(4) {
+        state[server].deadline = match random.index(3) {
             0 => latest,
             1 => latest - random.between(0, state[server].period),
-            2 => telling_deadline(random, &state[server], state.clock),
             _ => random.between(0, latest),
         };
     }
-}
-
-/// A deadline at which the server would just be refilled or just be kept, if it woke now (rule 7.1).
-fn telling_deadline(random: &mut Random, server: &Server, clock: u32) -> u32 {
-    let turn = clock + most_ticks_refilled(server);
-    let deadlines = [turn, turn + 1, clock, clock.saturating_sub(1)];
-    deadlines[random.index(deadlines.len())].min(clock + server.period)
 }
 
 /// Any of the Running servers that serve a task may execute it, whatever their budgets.
@@ -282,7 +273,7 @@ pub fn perturbed_state(random: &mut Random, state: &State) -> State {
 fn perturb(random: &mut Random, state: &mut State) {
     let server = ServerNumber(random.number(0, state.tasks - 1));
     let task = TaskNumber(random.number(0, state.tasks - 1));
-    match random.index(9) {
+    match random.index(8) {
         0 => state[server].budget = random.between(0, state[server].quota),
         1 => state[server].deadline = random.between(0, state.clock + state[server].period),
         2 => state.clock = random.between(0, CLOCK_LIMIT),
@@ -297,7 +288,6 @@ fn perturb(random: &mut Random, state: &mut State) {
             random.shuffle(&mut resource.queue[..waiting]);
         }
         6 => state.processors = random.number(1, PROCESSOR_LIMIT as u16),
-        7 => state[server].deadline = telling_deadline(random, &state[server], state.clock),
         _ => choose_accounts(random, state),
     }
 }

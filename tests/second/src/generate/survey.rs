@@ -4,13 +4,12 @@
 
 use super::coverage::Coverage;
 use super::damage::{damaged_trace, trace_with, Damage};
-use super::events::{accepted_events, possible_events, Kind};
+use super::events::{possible_events, Kind};
 use super::random::Random;
 use super::runs::Run;
 use super::sections::{bad_question, good_question, tight_questions, Question};
 use super::states::{broken_state, perturbed_state, sound_state};
 use super::tables::bad_table;
-use super::waking::Origin;
 use crate::meter::{read_meters, MeterRow};
 use crate::refusal::Refusal;
 use crate::replay::replay;
@@ -56,16 +55,16 @@ pub fn survey(seed: u64, rounds: u64) -> Coverage {
 }
 
 /// Steps one event and notes it.
-fn noted_step(coverage: &mut Coverage, origin: Origin, state: &mut State, event: Event) {
+fn noted_step(coverage: &mut Coverage, state: &mut State, event: Event) {
     let before = *state;
     let answer = step(state, event);
-    coverage.note_step(origin, &before, event, answer, state);
+    coverage.note_step(&before, event, answer, state);
 }
 
 fn survey_run(coverage: &mut Coverage, run: &Run) -> State {
     let (mut state, _) = fresh(&run.table);
     for &event in &run.events {
-        noted_step(coverage, Origin::Fresh, &mut state, event);
+        noted_step(coverage, &mut state, event);
     }
     state
 }
@@ -95,10 +94,6 @@ fn survey_states(random: &mut Random, coverage: &mut Coverage, reached: &State) 
     for state in [sound_state(random), perturbed_state(random, reached)] {
         survey_meters(random, coverage, &state);
         survey_events(random, coverage, &state, &state);
-        for wake in accepted_events(random, &state, Kind::Wake) {
-            let mut woken = state;
-            noted_step(coverage, Origin::Given, &mut woken, wake);
-        }
     }
     for clause in Clause::ALL {
         let state = broken_state(random, clause);
@@ -114,7 +109,7 @@ fn survey_events(random: &mut Random, coverage: &mut Coverage, given: &State, nu
         let events = possible_events(random, numbers, kind);
         if let Some(event) = random.pick(&events) {
             let mut state = *given;
-            noted_step(coverage, Origin::Given, &mut state, event);
+            noted_step(coverage, &mut state, event);
         }
     }
 }

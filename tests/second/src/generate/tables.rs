@@ -64,8 +64,6 @@ pub fn good_table(random: &mut Random, counts: Counts, pace: Pace, open: bool) -
         row.period = match random.index(16) {
             0 => row.quota,
             1 if pace == Pace::Wide => TICK_LIMIT,
-            // A multiple of Q, as people choose it.
-            2..=4 => row.quota * random.between(1, longest / row.quota),
             _ => random.between(row.quota, longest),
         };
         row.declared = every_resource;

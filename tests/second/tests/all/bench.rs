@@ -109,13 +109,6 @@ impl Machine {
         }
     }
 
-    /// Lets so many ticks pass; none is no event.
-    pub fn pass(&mut self, ticks: u32) {
-        if ticks > 0 {
-            self.accept(elapse(ticks));
-        }
-    }
-
     /// Brings tasks to execute in their own servers.
     pub fn start(&mut self, tasks: &[u16]) {
         for &number in tasks {

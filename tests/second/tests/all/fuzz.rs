@@ -76,7 +76,6 @@ fn both_steps_agree_on_sound_states() {
 fn check_step(before: &State, event: Event, answer: Answer, after: &State) {
     assert_eq!(after.broken_clauses(), [], "{event:?} from {before:?}");
     check_who_acts(before, event, answer);
-    check_wake(before, event, answer, after);
     if answer.is_err() {
         assert_eq!(before, after, "{event:?}");
         return;
@@ -101,30 +100,6 @@ fn check_who_acts(before: &State, event: Event, answer: Answer) {
         let may_not = matches!(number, Some(61..=63));
         assert_eq!(before[task].runs.is_none(), may_not, "{event:?}");
     }
-}
-
-/// Rule 7.1 as one comparison of signed numbers: c x P against (d - t) x Q, which is 0 or less where the
-/// deadline has come.
-fn check_wake(before: &State, event: Event, answer: Answer, after: &State) {
-    let (Event::Wake(task), Ok(outcome)) = (event, answer) else {
-        return;
-    };
-    let mut woken = 0;
-    for server in before.server_numbers() {
-        let mut expected = before[server];
-        if expected.phase == Phase::Idle && before.served_by(server) == task {
-            let left = i64::from(expected.deadline) - i64::from(before.clock);
-            let budget = i64::from(expected.budget);
-            if budget * i64::from(expected.period) >= left * i64::from(expected.quota) {
-                expected.budget = expected.quota;
-                expected.deadline = before.clock + expected.period;
-            }
-            expected.phase = Phase::Active;
-            woken += 1;
-        }
-        assert_eq!(after[server], expected, "{event:?} from {before:?}");
-    }
-    assert_eq!(outcome, Outcome::Ok(woken), "{event:?} from {before:?}");
 }
 
 fn executor_by_rule_h(

@@ -19,6 +19,5 @@ mod rules_bound;
 mod rules_events;
 mod rules_state;
 mod rules_trace;
-mod rules_waking;
 mod slips;
 mod stored;

@@ -103,6 +103,18 @@ fn sleeping_holder() -> Machine {
 
 /// Rule 7.1.
 #[test]
+fn wake_counts_inherited_servers_and_refills_each() {
+    let mut machine = sleeping_holder();
+    machine.accept(elapse(1));
+    assert_eq!(machine.accept(wake(0)), Outcome::Ok(2));
+    assert_eq!(machine.state[server(0)].budget, 9);
+    assert_eq!(machine.state[server(0)].deadline, 23);
+    assert_eq!(machine.state[server(1)].budget, 5);
+    assert_eq!(machine.state[server(1)].deadline, 13);
+}
+
+/// Rule 7.1.
+#[test]
 fn recharging_servers_stay_as_they_are() {
     let mut machine = Machine::new(2, 1, &[(9, 20), (3, 10)]);
     machine.start(&[0, 1]);

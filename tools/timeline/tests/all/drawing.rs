@@ -125,36 +125,6 @@ fn why_a_task_does_not_act_is_told() {
 }
 
 #[test]
-fn a_wake_tells_who_was_filled_anew() {
-    for (line, told) in [
-        ("2 ok 1", "S2 label is filled anew"),
-        ("12 ok 1", "S2 label keeps budget 4"),
-        ("19 ok 1", "S2 label keeps budget 1"),
-        ("32 ok 1", "S2 label is filled anew"),
-    ] {
-        let told = format!("<li><b>{line}</b> label wakes; 1 server becomes Active: {told}</li>\n");
-        assert!(page_of("waking-often").contains(&told), "{told}");
-    }
-}
-
-/// Server 1 is inherited: its task waits for what the task that wakes holds. Two budgets of 2 are
-/// left at tick 4, one up to the deadline 8 and one up to 40.
-#[test]
-fn a_wake_tells_of_each_server() {
-    let text = "machine 2 2 1\ntask 4 8 0\ntask 4 40 0\n\
-                wake 0\nwake 1\ndispatch 0\ndispatch 1\nlock 0 0\nlock 1 0\nelapse 2\n\
-                suspend 0\nelapse 2\nwake 0\n";
-    let run = Run::of(&trace::assemble::assemble(text.as_bytes()).unwrap());
-    let view = run.view(None, None).unwrap();
-    let place = view.moments.len() - 1;
-    let (wake, before) = (&view.moments[place], view.before_event(place));
-    assert_eq!(
-        words::sentence(wake, before, &Names::default()),
-        "T0 wakes; 2 servers become Active: S0 is filled anew, S1 keeps budget 2"
-    );
-}
-
-#[test]
 fn windows_fit_together() {
     for (name, trace) in all(60) {
         let run = Run::of(&trace);

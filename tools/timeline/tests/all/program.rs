@@ -48,16 +48,10 @@ fn a_picture_or_a_page() {
 }
 
 #[test]
-fn the_stored_pictures_are_what_is_drawn() {
-    for example in ["incident", "waking-often"] {
-        let picture = tree().join(format!("docs/pictures/{example}.svg"));
-        let stored = std::fs::read_to_string(picture).unwrap();
-        let [names, trace] = ["names", "trace"].map(|end| format!("examples/{example}.{end}"));
-        assert!(
-            stored == file(&["--names", &names, &trace], b""),
-            "{example}"
-        );
-    }
+fn the_stored_picture_is_what_is_drawn() {
+    let stored = std::fs::read_to_string(tree().join("docs/pictures/incident.svg")).unwrap();
+    let names = ["--names", "examples/incident.names"];
+    assert!(stored == file(&[names[0], names[1], "examples/incident.trace"], b""));
 }
 
 #[test]

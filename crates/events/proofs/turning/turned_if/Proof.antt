@@ -11,6 +11,6 @@ turned_if_spec =
     (λ c κs. rw c.enum_told.given.1 at c.before.before.before.requires)
     (λ c. search rules)
     (λ c κs. search rules)
-    (λ c. rw (c.before.before.before.if1.true, c.before.enum_told.given.1) c.woken-at.ensures)
+    (λ c. rw (c.before.before.before.if1.true, c.before.enum_told.given.1) c.refilled.ensures)
     (λ c. rw (c.before.before.before.if1.true, c.before.enum-told2.given.1) c.with_phase_lem.ensures)
     (λ c. search rules))

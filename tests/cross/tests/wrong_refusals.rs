@@ -1,9 +1,12 @@
-//! Layers that judge wrongly why a task may not act.
+//! Layers that judge wrongly why a task may not act: each is told apart, by the named case and by
+//! seeded ones.
 //!
 //! Assumes nothing. The wrong layers answer as the second program does but for a suspend, lock or
 //! unlock that is refused.
 
-use super::{told_apart, WrongSteps};
+mod common;
+
+use common::difference;
 use cross::answer::{Answer, REFUSED};
 use cross::sides::{Call, Layer, Second};
 use second::image::{decode, encode};
@@ -13,16 +16,46 @@ use second::state::{Mode, Phase, ResourceNumber, State, TaskNumber};
 /// state is sound and the task is there.
 type Judgement = fn(&State, Call, Answer) -> Answer;
 
-fn wrong_layer(judgement: Judgement) -> impl Layer {
-    WrongSteps(move |state: &mut [u8], call: Call| {
+struct WrongLayer(Judgement);
+
+impl Layer for WrongLayer {
+    fn step(&self, state: &mut [u8], call: Call) -> Answer {
         let before = decode(state);
         let answer = Second.step(state, call);
         let judged = matches!(call.kind, 2 | 7 | 8) && answer.word == REFUSED && answer.number > 2;
         match before {
-            Some(before) if judged => judgement(&before, call, answer),
+            Some(before) if judged => self.0(&before, call, answer),
             _ => answer,
         }
-    })
+    }
+
+    fn layout(&self) -> Answer {
+        Second.layout()
+    }
+
+    fn fresh(&self, table: &[u8], state: &mut [u8]) -> Answer {
+        Second.fresh(table, state)
+    }
+
+    fn is_sound(&self, state: &[u8]) -> Answer {
+        Second.is_sound(state)
+    }
+
+    fn executing(&self, state: &[u8], server: u16) -> Answer {
+        Second.executing(state, server)
+    }
+
+    fn meter(&self, state: &[u8], rows: &mut [u8]) -> Answer {
+        Second.meter(state, rows)
+    }
+
+    fn bound(&self, sections: &[u8], task: u16, allowance: u32, out: &mut [u8]) -> Answer {
+        Second.bound(sections, task, allowance, out)
+    }
+
+    fn replay(&self, trace: &[u8], out: &mut [u8]) -> Answer {
+        Second.replay(trace, out)
+    }
 }
 
 /// Each wrong judgement, with what the two sides say of the named case once it is small.
@@ -214,10 +247,16 @@ fn not_on_top(state: &State, call: Call) -> Option<u32> {
     (call.kind == 8 && own && !on_top).then_some(18)
 }
 
+/// The text of the first difference in a family.
+fn told_apart(what: &str, judgement: Judgement, family: &str) -> String {
+    let text = difference(&WrongLayer(judgement), family);
+    text.unwrap_or_else(|| panic!("{what}: not told apart"))
+}
+
 #[test]
 fn the_named_case_tells_them_apart() {
     for (what, judgement, [wrong, right]) in WRONG {
-        let text = told_apart(what, &wrong_layer(judgement), "case 6, who may not act");
+        let text = told_apart(what, judgement, "case 6, who may not act");
         let told = format!("proved: {wrong}\nsecond: {right}\n");
         assert!(text.contains(&told), "{what}: {text}");
     }
@@ -226,13 +265,13 @@ fn the_named_case_tells_them_apart() {
 #[test]
 fn seeded_states_tell_them_apart() {
     for (what, judgement, _) in WRONG {
-        told_apart(what, &wrong_layer(judgement), "made-up sound states");
+        told_apart(what, judgement, "made-up sound states");
     }
 }
 
 #[test]
 fn seeded_runs_tell_them_apart() {
     for (what, judgement, _) in WRONG {
-        told_apart(what, &wrong_layer(judgement), "runs step by step");
+        told_apart(what, judgement, "runs step by step");
     }
 }
