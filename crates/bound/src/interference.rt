@@ -15,7 +15,7 @@ use crate::draw::{END, FROM, LENGTH, PARENT, RESOURCE, SPANS, TASK};
 use crate::{SECTIONS, TASKS, Tally, draw, sets};
 
 // How far a calculation still goes: over how many sections, with how many tasks outside B, and how deep or with how many tasks left to order.
-#[derive(Drop)]
+#[derive(Clone, Copy)]
 pub(crate) struct Reach {
     pub count: usize,
     pub left: usize,

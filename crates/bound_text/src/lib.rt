@@ -1,5 +1,7 @@
 // A table of sections as text (docs/BOUNDS.md): a line with the number of tasks, then a line for each section, read a byte at a time.
 // What a text is read as stands in specs/. Assumes nothing.
+#![tactic(auto)]
+
 use bound::{SECTIONS, Section};
 
 mod bytes;
@@ -16,7 +18,7 @@ pub const GREATEST_SHORT: u16 = 65535;
 
 // What a line has shown so far: how many fields and their numbers, whether the last byte stands in a number, whether the last field is a dash,
 // whether the line is understood, and whether a comment has begun.
-#[derive(Drop)]
+#[derive(Clone, Copy)]
 pub struct Line {
     pub fields: u16,
     pub value: [u32; FIELDS],
@@ -29,7 +31,7 @@ pub struct Line {
 // What the lines have shown so far: `line` is the number of the line that is being read, from 1, or of the first that is not understood;
 // `first` is that of the line with the number of tasks, or 0; `lines` are those of the sections; `surplus` is that of the
 // thirteenth, or 0.
-#[derive(Drop)]
+#[derive(Clone, Copy)]
 pub struct Reading {
     pub tasks: u16,
     pub first: u32,
@@ -41,7 +43,7 @@ pub struct Reading {
     pub line: u32,
 }
 
-#[derive(Drop)]
+#[derive(Clone, Copy)]
 pub struct State {
     pub reading: Reading,
     pub line: Line,

@@ -1,6 +1,8 @@
 // The planners' program: a table of sections on standard input, the allowance as an argument, and a line for each task. The format is in
 // docs/BOUNDS.md. What is read, and at which line a table is refused, stands in `bound_text`, what is calculated in `bound`; this only writes. A table
 // that is refused is told on standard output, like a bound; where no table is looked at, the reason is told on standard error.
+#![tactic(auto)]
+
 use bound::{Bounded, Sections, table};
 use bound_text::{Reading, fault};
 use libc::{STDERR_FILENO, STDIN_FILENO, STDOUT_FILENO};

@@ -10,14 +10,14 @@ ghost use Rattle.events.specs.Computed.{concerns, turned, Timely, turned_servers
 use model::{Mode, Phase, Server, State, TaskNo};
 
 // Idle servers become Active, refilled; Active and Running ones become Idle.
-#[derive(Drop)]
+#[derive(Clone, Copy)]
 pub enum Turn {
     Wakes,
     Rests,
 }
 
 // All servers after a change, and how many turned.
-#[derive(Drop)]
+#[derive(Clone, Copy)]
 pub struct Turned {
     pub server: [Server; 16],
     pub count: u16,

@@ -1,9 +1,11 @@
 // A state in lent bytes: a fixed layout, little-endian (docs/STATE.md), for callers that keep the state on their side of the library. The header and the
 // entries in use are read and written, every other byte stays (rule 1.7). Writing and reading give each other back (laws `decoded_encoded` and
 // `encoded_decoded`). No assumption on the bytes or the state.
+#![tactic(auto)]
+
 use model::State;
 
-#[derive(Drop)]
+#[derive(Clone, Copy)]
 pub enum ImageAnswer {
     Held,
     // 1: the bytes are no state's
@@ -11,14 +13,14 @@ pub enum ImageAnswer {
 }
 
 // What reading gives back. The answer stands beside the state, since an enum holds no array.
-#[derive(Drop)]
+#[derive(Clone, Copy)]
 pub struct Imaged {
     pub answer: ImageAnswer,
     pub state: State,
 }
 
 // An enum as the number of its variant and the number that the variant holds, 0 where it holds none.
-#[derive(Drop)]
+#[derive(Clone, Copy)]
 pub struct Tagged {
     pub tag: u8,
     pub number: u16,

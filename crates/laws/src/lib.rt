@@ -1,1 +1,2 @@
 // No code: what this crate has stands in specs/ (definitions) and proofs/ (laws).
+#![tactic(auto)]

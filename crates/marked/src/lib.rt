@@ -1,1 +1,2 @@
 // No code: the marked examples, computed by the checker from the definitions.
+#![tactic(auto)]

@@ -1,17 +1,18 @@
 // The types of the machine: numbers, state, events, answers and tables (rules 1 and 2). A state goes in by value and comes back by value.
 // Widths are chosen for size (ticks and accounts 32 bits, numbers the 16 bits of a trace's operands); to the specs each is a number.
 // There are sixteen places for tasks, servers and resources; entries from the count on are not in use (rule 1.7). Assumes nothing.
+#![tactic(auto)]
 
 // The number of a task, the paper's tau (rule 1.2).
-#[derive(Drop)]
+#[derive(Clone, Copy)]
 pub struct TaskNo(pub u16);
 
 // The number of a server, the paper's S (rule 1.2).
-#[derive(Drop)]
+#[derive(Clone, Copy)]
 pub struct ServerNo(pub u16);
 
 // Rule 2.1.
-#[derive(Drop)]
+#[derive(Clone, Copy)]
 pub enum Phase {
     Idle,
     Active,
@@ -20,7 +21,7 @@ pub enum Phase {
 }
 
 // A reservation (rules 1.4, 2.1, 8.1): `quota` is its budget Q every `period` P; `budget` is what remains. Ticks executing its own task, another's, spinning.
-#[derive(Drop)]
+#[derive(Clone, Copy)]
 pub struct Server {
     pub phase: Phase,
     pub budget: u32,
@@ -33,7 +34,7 @@ pub struct Server {
 }
 
 // Rule 2.2.
-#[derive(Drop)]
+#[derive(Clone, Copy)]
 pub enum Mode {
     Suspended,
     Ready,
@@ -42,14 +43,14 @@ pub enum Mode {
 }
 
 // Where a task executes (rule 2.5).
-#[derive(Drop)]
+#[derive(Clone, Copy)]
 pub enum Runs {
     Nowhere,
     In(ServerNo),
 }
 
 // Rules 1.6, 2.3: `declared` has bit r for resource r; the resources it holds are the first `depth` places of `held`, the latest last.
-#[derive(Drop)]
+#[derive(Clone, Copy)]
 pub struct Task {
     pub mode: Mode,
     pub runs: Runs,
@@ -59,21 +60,21 @@ pub struct Task {
     pub held: [u16; 16],
 }
 
-#[derive(Drop)]
+#[derive(Clone, Copy)]
 pub enum Owner {
     Nobody,
     By(TaskNo),
 }
 
 // Rule 2.4: the tasks that wait for it are the first `waiting` places of `queue`, the first come first.
-#[derive(Drop)]
+#[derive(Clone, Copy)]
 pub struct Resource {
     pub owner: Owner,
     pub waiting: u16,
     pub queue: [TaskNo; 16],
 }
 
-#[derive(Drop)]
+#[derive(Clone, Copy)]
 pub struct State {
     pub processors: u16,
     pub tasks: u16,
@@ -85,7 +86,7 @@ pub struct State {
 }
 
 // Rules 7.1 to 7.10.
-#[derive(Drop)]
+#[derive(Clone, Copy)]
 pub enum Event {
     Wake(TaskNo),
     Suspend(TaskNo),
@@ -97,7 +98,7 @@ pub enum Event {
     Unlock(TaskNo, u16),
 }
 
-#[derive(Drop)]
+#[derive(Clone, Copy)]
 pub enum Answer {
     Ok(u16),
     Executes(TaskNo),
@@ -112,28 +113,28 @@ pub enum Answer {
 }
 
 // What a step gives back. The answer stands beside the state, since an enum holds no array.
-#[derive(Drop)]
+#[derive(Clone, Copy)]
 pub struct Outcome {
     pub answer: Answer,
     pub state: State,
 }
 
 // What tests say: that none refuses, or the number of the first that does.
-#[derive(Drop)]
+#[derive(Clone, Copy)]
 pub enum Verdict {
     Accepted,
     Refused(u16),
 }
 
 // A task's line of the table from which a state starts (rule 5.1).
-#[derive(Drop)]
+#[derive(Clone, Copy)]
 pub struct Entry {
     pub quota: u32,
     pub period: u32,
     pub declared: u16,
 }
 
-#[derive(Drop)]
+#[derive(Clone, Copy)]
 pub struct Table {
     pub processors: u16,
     pub tasks: u16,
@@ -141,20 +142,20 @@ pub struct Table {
     pub entry: [Entry; 16],
 }
 
-#[derive(Drop)]
+#[derive(Clone, Copy)]
 pub enum FreshAnswer {
     Made,
     Refused(u16),
 }
 
-#[derive(Drop)]
+#[derive(Clone, Copy)]
 pub struct FreshOutcome {
     pub answer: FreshAnswer,
     pub state: State,
 }
 
 // A meter row: what a caller sees of one server (rule 9.1).
-#[derive(Drop)]
+#[derive(Clone, Copy)]
 pub struct Row {
     pub phase: Phase,
     pub budget: u32,

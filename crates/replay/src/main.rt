@@ -1,5 +1,7 @@
 // Replays the trace on standard input and writes its listing to standard output. What matters is in the crate `listing`; here is what reads and writes,
 // of which no contract can speak.
+#![tactic(auto)]
+
 ghost use Rattle.std.specs.Prelude.{◌≡◌, ◌≤◌, length, take};
 ghost use Rattle.listing.specs.Listing.{listing};
 ghost use Rattle.listing.specs.Replay.{room};
@@ -9,7 +11,7 @@ use listing::Replayed;
 use listing::buffers::{SHORT_FILE, file_buffer, short_text_buffer, text_buffer};
 
 // How many bytes were read, or that a read failed.
-#[derive(Drop)]
+#[derive(Clone, Copy)]
 enum Input {
     Whole(usize),
     Failed,

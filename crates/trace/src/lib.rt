@@ -1,13 +1,15 @@
 // Traces: what a record is and where reading stands. `Place::read` reads the record at a place.
+#![tactic(auto)]
+
 use model::{Entry, Event};
 
 // A place in a trace, by value: the offset of a record. Reading answers the record with the next place (rule 13.8).
-#[derive(Drop)]
+#[derive(Clone, Copy)]
 pub struct Place {
     pub at: usize,
 }
 
-#[derive(Drop)]
+#[derive(Clone, Copy)]
 pub enum Record {
     // kind 16: processors, tasks, resources
     Counts(u16, u16, u16),
@@ -18,7 +20,7 @@ pub enum Record {
 }
 
 // What reading at a place finds.
-#[derive(Drop)]
+#[derive(Clone, Copy)]
 pub enum Read {
     Got(Record, Place),
     // the file ends here, between records
