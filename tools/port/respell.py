@@ -99,10 +99,13 @@ TOKEN = re.compile(rf'(?<!\.)(?<![\w-]){WORD}')
 
 
 FIELD = re.compile(rf'(?<=\.){WORD}')
+OF_A_MODULE = re.compile(rf'(\b[A-Z]\w*\.)({WORD})')
 
 
 def turned(text, names):
-    return FIELD.sub(lambda m: names.get(m[0], m[0]) if m[0] in fields else m[0], TOKEN.sub(lambda m: names.get(m[0], m[0]), text))
+    text = TOKEN.sub(lambda m: names.get(m[0], m[0]), text)
+    text = OF_A_MODULE.sub(lambda m: m[1] + names.get(m[2], m[2]), text)
+    return FIELD.sub(lambda m: names.get(m[0], m[0]) if m[0] in fields else m[0], text)
 
 
 def spans(text, names):

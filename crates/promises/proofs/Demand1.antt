@@ -5,16 +5,16 @@ use Rattle.theory.proofs.InUse as U
 use Rattle.promises.specs.Demand1.{RefusedSame, RefusedListed, TestsAscend, PastKept, PastUnread}
 
 pub refused_same : RefusedSame
-refused_same = R.refused-same
+refused_same = R.refused_same
 
 pub refused_listed : RefusedListed
-refused_listed = R.refused-listed
+refused_listed = R.refused_listed
 
 pub tests_ascend : TestsAscend
-tests_ascend st e = (R.listed-are st e, R.listed-rise e)
+tests_ascend st e = (R.listed_are st e, R.listed_rise e)
 
 pub past_kept : PastKept
-past_kept st e i = P.past-kept st i e
+past_kept st e i = P.past_kept st i e
 
 pub past_unread : PastUnread
-past_unread = U.past-unread
+past_unread = U.past_unread

@@ -10,34 +10,34 @@ pub kept : Kept
 kept = S.kept
 
 pub sound_always : SoundAlways
-sound_always = S.sound-always
+sound_always = S.sound_always
 
 pub never_unsound : NeverUnsound
-never_unsound = S.never-unsound
+never_unsound = S.never_unsound
 
 pub one_server : OneServer
-one_server = S.one-server
+one_server = S.one_server
 
 pub servers_that_execute : ServersThatExecute
-servers_that_execute = S.servers-that-execute
+servers_that_execute = S.servers_that_execute
 
 pub one_owner : OneOwner
-one_owner = S.one-owner
+one_owner = S.one_owner
 
 pub no_cycle : NoCycle
-no_cycle = S.no-cycle
+no_cycle = S.no_cycle
 
 pub rule_h_always : RuleHAlways
-rule_h_always = H.rule-h-always
+rule_h_always = H.rule_h_always
 
 pub dispatch_only : DispatchOnly
-dispatch_only = P.dispatch-only
+dispatch_only = P.dispatch_only
 
 pub accounts_by_elapse : AccountsByElapse
-accounts_by_elapse = (C.elapse-adds, C.others-add)
+accounts_by_elapse = (C.elapse_adds, C.others_add)
 
 pub ticks_are : Ticks
-ticks_are = T.ticks-are
+ticks_are = T.ticks_are
 
 pub each_tick_once : EachTickOnce
-each_tick_once = T.each-tick-once
+each_tick_once = T.each_tick_once

@@ -7,7 +7,7 @@ pub groups : Groups
 groups = G.groups
 
 pub order_free_from : OrderFreeFrom
-order_free_from = O.order-free-from
+order_free_from = O.order_free_from
 
 pub order_free : OrderFree
-order_free = O.order-free
+order_free = O.order_free

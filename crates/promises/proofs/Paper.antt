@@ -15,7 +15,7 @@ pub lambda : Lambda
 lambda = L.lambda
 
 pub one_to_serve : OneToServe
-one_to_serve = L.one-to-serve
+one_to_serve = L.one_to_serve
 
 pub dispatching : Dispatching
 dispatching = D.dispatched
@@ -30,36 +30,36 @@ pub refilling : Refilling
 refilling = R.refills
 
 pub suspension : Suspension
-suspension = S.sleeps-set
+suspension = S.sleeps_set
 
 pub waking : Waking
-waking = S.wakes-set
+waking = S.wakes_set
 
 pub locking_free : LockingFree
-locking_free = F.grants-free
+locking_free = F.grants_free
 
 pub locking_occupied : LockingOccupied
-locking_occupied = J.locks-behind
+locking_occupied = J.locks_behind
 
 pub unlocking_free : UnlockingFree
-unlocking_free = F.frees-last
+unlocking_free = F.frees_last
 
 pub unlocking : Unlocking
-unlocking = H.hands-all
+unlocking = H.hands_all
 
 pub inner_unlocking : InnerUnlocking
 inner_unlocking = H.passes_on
 
 pub rules_fix : RulesFix
 rules_fix = record {
-  dispatching = X.dispatched-fixed;
-  preemption = X.preempted-fixed;
-  recharging = X.elapsed-fixed;
-  refilling = X.recharged-fixed;
-  suspension = X.slept-fixed;
-  waking = X.woken-fixed;
-  locking_free = X.granted-fixed;
-  locking_occupied = X.behind-fixed;
-  unlocking_free = X.freed-fixed;
-  unlocking = X.passed-fixed;
+  dispatching = X.dispatched_fixed;
+  preemption = X.preempted_fixed;
+  recharging = X.elapsed_fixed;
+  refilling = X.recharged_fixed;
+  suspension = X.slept_fixed;
+  waking = X.woken_fixed;
+  locking_free = X.granted_fixed;
+  locking_occupied = X.behind_fixed;
+  unlocking_free = X.freed_fixed;
+  unlocking = X.passed_fixed;
 }

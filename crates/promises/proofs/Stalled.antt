@@ -3,16 +3,16 @@ use Rattle.theory.proofs.Stalled as S
 use Rattle.promises.specs.Stalled.{OneOfFour, Which, NoOther, NamesAwaited, GroupsOwn}
 
 pub one_of_four : OneOfFour
-one_of_four = S.one-of-four
+one_of_four = S.one_of_four
 
 pub which : Which
 which = S.which
 
 pub no_other : NoOther
-no_other = S.tells-admitted
+no_other = S.tells_admitted
 
 pub names_awaited : NamesAwaited
-names_awaited = S.names-awaited
+names_awaited = S.names_awaited
 
 pub groups_own : GroupsOwn
-groups_own = S.others-leave
+groups_own = S.others_leave

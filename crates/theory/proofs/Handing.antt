@@ -113,20 +113,20 @@ module _ (st : State) (t r : ℕ) (some : 0 < (resource_at st r).waiting) (way :
   task_now
       : (y : ℕ)
       → task_at (changed st e) y ≡ (if eqb y h then pushed r (with_mode Ready (task_at st h)) else if eqb y t then popped (task_at st t) else task_at st y)
-  task_now y = ap (λ z. task_at z y) changed_is ∙ T.pass-task st t r some way y
+  task_now y = ap (λ z. task_at z y) changed_is ∙ T.pass_task st t r some way y
 
   resource_now : (q : ℕ) → resource_at (changed st e) q ≡ (if eqb q r then with_owner (By (record { 0 = h })) (dequeued (resource_at st r)) else resource_at st q)
-  resource_now q = ap (λ z. resource_at z q) changed_is ∙ T.pass-resource st t r some way q
+  resource_now q = ap (λ z. resource_at z q) changed_is ∙ T.pass_resource st t r some way q
 
   server_now : (s : ℕ) → server_at (changed st e) s ≡ server_at st s
   server_now s = ap (λ z. server_at z s) changed_is
 
   -- the heir did not execute: the releaser's server takes it where it serves it now
   heir_idle : executing st h ≡ false
-  heir_idle = unheld_fails _ (λ y. omega (arith, runs_ended st way.facts h y, T.heir-next st t r some way, here_below st t used))
+  heir_idle = unheld_fails _ (λ y. omega (arith, runs_ended st way.facts h y, T.heir_next st t r some way, here_below st t used))
 
   heir_free : running_for after h (executor_of st h) ≡ false
-  heir_free = rw (executor_none st h (T.heir-used st t r some way) heir_idle) (nobody_serves after h)
+  heir_free = rw (executor_none st h (T.heir_used st t r some way) heir_idle) (nobody_serves after h)
 
   -- servers of any third task see no difference
   others : ExecutorsStay st after (λ y. (y ≡ t) ⊎ (y ≡ h))
@@ -137,20 +137,20 @@ module _ (st : State) (t r : ℕ) (some : 0 < (resource_at st r).waiting) (way :
       (λ q.
       other_for after y s (λ p. n (inr (sym p ∙ after_mid s ∙ q.1))) ∙ sym (other_for st y s (λ p. n (inl (sym p ∙ q.0)))))
       (λ q. same_for st e way y s (after_mid s ∙ q) (ap (λ (x : Server). running x.phase) (after_server st e s ∙ server_now s)))
-      (T.ends-after-pass st t r some way s v))
+      (T.ends_after_pass st t r some way s v))
 
   -- the releaser waits for nobody, and serves itself
   releaser_end : served after t ≡ t
   releaser_end =
       let unwanted : wants t ≡ false =
       unheld_fails _ (λ y. omega (arith, ap awaited (T.ready st t r some way), eqb-true _ r (and_right (here st t) _ y), present_below st r known)) in
-      let still = T.link-others st t r some way t (λ q. T.apart st t r some way (sym q)) unwanted in
+      let still = T.link_others st t r some way t (λ q. T.apart st t r some way (sym q)) unwanted in
       after_mid t ∙ end_itself mid t (rw still (T.ended st t r some way))
 
   others_stay : (s : ℕ) → here st s ≡ true → (served st s ≡ t → ⊥) → served after s ≡ served st s
   others_stay s u n =
       ⊎_elim (λ q. absurd (n q.0)) (λ q. after_mid s ∙ q)
-      (T.ends-after-pass st t r some way s u)
+      (T.ends_after_pass st t r some way s u)
 
   -- where it is the releaser's only resource, all that ended at the releaser came through it
   only_through : (task_at st t).depth ≡ 1 → (s : ℕ) → here st s ≡ true → served st s ≡ t → (s ≡ t → ⊥) → served after s ≡ h
@@ -175,7 +175,7 @@ module _ (st : State) (t r : ℕ) (some : 0 < (resource_at st r).waiting) (way :
   -- and the rest stays
   goes_apart : (s : ℕ) → here st s ≡ true → (Through st r s → ⊥) → served after s ≡ served st s
   unfolding Leads
-  goes_apart s u n = after_mid s ∙ T.ends-apart st t r some way s (λ k v l y. n (leads_through k v l (by_wants v y)))
+  goes_apart s u n = after_mid s ∙ T.ends_apart st t r some way s (λ k v l y. n (leads_through k v l (by_wants v y)))
     where
       leads_through : (k v : ℕ) → Leads places (next st) k s v → (task_at st v).mode ≡ Waiting r → Through st r s
       leads_through zero v l m = record { waiter = v; here_waits = m; way = inl l }
@@ -189,13 +189,13 @@ module _ (st : State) (t r : ℕ) (some : 0 < (resource_at st r).waiting) (way :
         (λ y u n. task_now y ∙ rw (ne_eqb y h (λ q. n (inr q)), ne_eqb y t (λ q. n (inl q))))
         (λ q u n. resource_now q ∙ rw (ne_eqb q r n));
     owner = after_resource st e r ∙ resource_now r ∙ rw (eq-eqb r r refl);
-    heir_stack = task_is st e way h (T.heir-used st t r some way) (pushed r (with_mode Ready (task_at st h))) (task_now h ∙ rw (eq-eqb h h refl));
+    heir_stack = task_is st e way h (T.heir_used st t r some way) (pushed r (with_mode Ready (task_at st h))) (task_now h ∙ rw (eq-eqb h h refl));
     releaser_stack = task_is st e way t used (popped (task_at st t)) (task_now t ∙ rw (ne_eqb t h (λ q. T.apart st t r some way (sym q)), eq-eqb t t refl));
     through = goes_through;
     apart = goes_apart;
     executors = others;
-    goes_with_heir = (by_rule_h st e way h (T.heir-used st t r some way)).takes heir_free;
-    heir_goes_on = executor_chosen st e way h (T.heir-used st t r some way) heir_free;
+    goes_with_heir = (by_rule_h st e way h (T.heir_used st t r some way)).takes heir_free;
+    heir_goes_on = executor_chosen st e way h (T.heir_used st t r some way) heir_free;
     stays_with_releaser = (by_rule_h st e way t used).keeps;
     releaser_goes_on = λ f. executor_chosen st e way t used f f;
   }
