@@ -1,0 +1,13 @@
+-- What the loop keeps. Assumes nothing.
+use mathlib.Core.Path.{◌≡◌}
+use Prim.Native.Nat.{◌≤◌, ◌-◌}
+use borrow.Author.Rules.{rules}
+use native.Mathlib.Omega.{arith}
+use lib.ListN.{replicate}
+use Rattle.laws.specs.Loops.{set_to}
+use Rattle.laws.proofs.Set.{set_none, set_more, set_done}
+use Rattle.bound.specs.Computed.{row_at, rows_of}
+use Rattle.bound.proofs.draw.rows.Given as goal
+
+abbrev pub invariant-loop-i : goal.invariant-loop-i
+invariant-loop-i l = (l.i ≤ l.s.count) × (l.drawn ≡ set_to l.i (row_at l.s) (replicate 12 (replicate 4 0)))

@@ -1,0 +1,9 @@
+-- What the loop keeps. Assumes nothing.
+use Prim.Native.Nat.{◌≤◌, ◌-◌}
+use borrow.Author.Rules.{rules}
+use native.Mathlib.Omega.{arith}
+use Rattle.bound.proofs.Spans.{Begun, spans_none, spans_turn, spans_done}
+use Rattle.bound.proofs.draw.spans.Given as goal
+
+abbrev pub invariant-loop-i : goal.invariant-loop-i
+invariant-loop-i l = (l.i ≤ l.count) × Begun l.rows l.drawn l.i

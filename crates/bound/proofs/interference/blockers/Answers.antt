@@ -1,0 +1,30 @@
+-- `bound::interference::blockers` meets its contract. Assumes nothing.
+use mathlib.Core.Path.{◌≡◌}
+use Prim.Native.Nat.{◌≤◌, ◌-◌}
+use native.Mathlib.Omega.{arith}
+use borrow.Author.Rules.{rules}
+use Rattle.laws.specs.Loops.{fold_to}
+use Rattle.laws.proofs.Fold.{fold_none, fold_more, fold_done}
+use Rattle.bound.specs.declared.Sections.{Sections}
+use Rattle.bound.specs.Sets.{no_task}
+use Rattle.bound.specs.Interference.{blocker, blockers}
+use Rattle.bound.specs.Computed.{Drawn}
+use Rattle.bound.proofs.Steps.{blocker_turn}
+use Rattle.bound.proofs.interference.blockers.Goals as goal
+
+pub loop-i-init : goal.loop-i-init
+unfolding blockers
+loop-i-init c =
+    (omega arith, λ s d. fold_none _ _)
+
+pub loop-i-preserved : goal.loop-i-preserved
+unfolding blockers
+loop-i-preserved c = (
+  omega arith,
+  λ s d. fold_more _ _ _ _ _ (c.loop-i.invariant.1 s d) (blocker_turn s _ _ _ _ _ _ d (omega arith)),
+)
+
+pub returns : goal.returns
+unfolding blockers
+returns c =
+    λ s d. fold_done _ _ _ _ _ (omega arith) (omega (arith, d.count_is)) (c.loop-i.invariant.1 s d)

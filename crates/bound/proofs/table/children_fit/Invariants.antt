@@ -1,0 +1,13 @@
+-- What the loop keeps. Assumes nothing.
+use mathlib.Core.Path.{◌≡◌}
+use Prim.Native.Nat.{◌≤◌, ◌-◌, ◌*◌}
+use borrow.Author.Rules.{rules}
+use native.Mathlib.Omega.{arith}
+use Rattle.laws.specs.Loops.{sum_to}
+use Rattle.laws.proofs.Sum.{sum_none, sum_more, sum_done}
+use Rattle.bound.specs.Table.{child_length}
+use Rattle.bound.proofs.Refusals.{children_are}
+use Rattle.bound.proofs.table.children_fit.Given as goal
+
+abbrev pub invariant-loop-c : goal.invariant-loop-c
+invariant-loop-c l = (l.c ≤ l.s.count) × (l.sum ≤ l.c * 4294967296) × (l.sum ≡ sum_to l.c (child_length l.s l.i))

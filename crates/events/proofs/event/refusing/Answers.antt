@@ -1,0 +1,15 @@
+-- `events::event::refusing` meets its contract. The task of an event that 62 refuses is in use, so that its entry is there. Assumes nothing.
+use mathlib.Core.Path.{ap, ◌∙◌}
+use mathlib.Core.Option.{some}
+use native.Mathlib.Omega.{arith}
+use borrow.Author.Rules.{rules}
+use borrow.Author.Tests.{eq-eqb, ne_eqb}
+use Rattle.model.specs.declared.Answer.TheVariants.{RefusedWaiting}
+use Rattle.model.specs.State.{task_at, awaited}
+use Rattle.model.proofs.Chain.{here_below}
+use Rattle.model.proofs.Stalled.{admitted, admitted_here}
+use Rattle.events.proofs.event.refusing.Goals as goal
+
+pub bounds-st-number_of : goal.bounds-st-number_of
+bounds-st-number_of c =
+    rw c.number_of.ensures (here_below c.args.t1 _ (admitted_here c.args.t1 c.args.e (admitted 62 (omega arith) c.args.t1 c.args.e (c.requires ∙ ap some c.if-n-ne62.false))))

@@ -1,0 +1,31 @@
+-- `events::running::running_count` meets its contract. Assumes nothing.
+use mathlib.Core.Path.{◌≡◌, sym, ap, ◌∙◌}
+use mathlib.Core.Logic.{⊎_elim}
+use Prim.Native.Nat.{◌≤◌, ◌-◌, ◌+◌}
+use borrow.Author.Rules.{rules}
+use native.Mathlib.Omega.{arith}
+use Rattle.laws.specs.Loops.{count_to}
+use Rattle.laws.proofs.Count.{bit_le, count_none, count_more, count_same, count_done}
+use Rattle.model.specs.State.{here, running_at}
+use Rattle.events.proofs.Turns.{running_here, running_past}
+use Rattle.events.proofs.running.running_count.Goals as goal
+use Rattle.events.proofs.running.running_count.Goals.{else-in_use, then-in_use}
+
+pub loop-s-init : goal.loop-s-init
+unfolding here
+loop-s-init c =
+    (omega arith, omega arith, count_none _)
+
+pub loop-s-preserved : goal.loop-s-preserved
+unfolding here
+loop-s-preserved c =
+    let used = sym c.in_use.ensures in
+    elim c.if-in_use.branch [
+      | then-in_use w ↦ (
+        omega arith,
+        omega (arith, w.count-is, w.one_if-count.ensures, bit_le w.is_running.result),
+        w.count-is ∙ ap (λ x. c.loop-s.count + x) w.one_if-count.ensures
+            ∙ count_more _ _ _ _ (running_here _ _ _ (used ∙ w.if-in_use.true) w.is_running.ensures) c.loop-s.invariant.2,
+      )
+      | else-in_use w ↦ (omega arith, omega arith, w.count-is ∙ count_same _ _ _ (running_past _ _ (used ∙ w.if-in_use.false)) c.loop-s.invariant.2)
+    ]
