@@ -19,12 +19,12 @@ loop-i-init c =
 pub loop-i-preserved : goal.loop-i-preserved
 unfolding outers_in outer_next
 loop-i-preserved c =
-    let at-loop = ⟨2⟩ in (
+    (
       omega arith,
-      length-set at-loop.loop.drawn _ _ ∙ at-loop.loop.invariant.1,
-      fold_more _ _ _ _ _ at-loop.loop.invariant.2
-          (sets_set at-loop.loop.drawn at-loop.loop.i _ (omega (arith, at-loop.before.requires.count_most)) at-loop.loop.invariant.1
-          ∙ ap (λ r. set (sets_of at-loop.loop.drawn) at-loop.loop.i r) c.around-next.ensures),
+      length-set c.loop-i.drawn _ _ ∙ c.loop-i.invariant.1,
+      fold_more _ _ _ _ _ c.loop-i.invariant.2
+          (sets_set c.loop-i.drawn c.loop-i.i _ (omega (arith, c.requires.count_most)) c.loop-i.invariant.1
+          ∙ ap (λ r. set (sets_of c.loop-i.drawn) c.loop-i.i r) c.around-next.ensures),
     )
 
 pub returns : goal.returns

@@ -17,7 +17,7 @@ loop-c-init c =
 pub loop-c-preserved : goal.loop-c-preserved
 unfolding child_length
 loop-c-preserved c =
-    (omega arith, omega arith, sum_more _ _ _ _ c.child_length-sum.ensures.0 c.loop-c.invariant.2)
+    (omega arith, omega arith, sum_more _ _ _ _ c.child_length-sum.ensures.is c.loop-c.invariant.2)
 
 pub returns : goal.returns
 unfolding child_length

@@ -17,7 +17,7 @@ loop-i-init c =
 
 pub loop-i-preserved : goal.loop-i-preserved
 loop-i-preserved c =
-    let at-loop = ⟨2⟩ in (
+    (
       omega arith,
-      refusal_turn _ _ _ _ _ at-loop.loop.invariant.1 c.section_refusal.ensures c.or_else-found.ensures,
+      refusal_turn _ _ _ _ _ c.loop-i.invariant.1 c.section_refusal.ensures c.or_else-found.ensures,
     )
