@@ -1,11 +1,11 @@
 -- The cycle of calls: the interference sum, the ordering value, and what stands between them. Each answer is for what a function leaves of the
 -- allowance, from what it calls at a lower measure (`Invariants`). Assumes nothing.
-use Rattle.std.proofs.Common.{◌≡◌, refl, ap, sym, ◌∙◌, arith}
+use Rattle.std.proofs.Common.{refl, ap, sym, ◌∙◌, arith}
 use Rattle.bound.specs.Interference.{both, larger}
 use Rattle.bound.specs.Computed.{from_in, end_in}
 use Rattle.bound.proofs.Turns.{spend_same, one_of, both_of, both_later, first_out, turns_none, turn_out, sum_goes, order_goes, best_greater, best_stays}
 use Rattle.bound.proofs.Skips.{best_from, best_to_lem, sum_from, sum_to}
-use Rattle.bound.proofs.Steps.{fair_of, weigh_not, weigh_none, weigh_met, weigh_is, best_exceeds, tried_starts, tried_is, order_made, order_ends, order_skips, turns_all, larger_none, larger_most, own_is, sum_not, sum_is_lem, sum_made, sum_alone, sum_ends}
+use Rattle.bound.proofs.Steps.{weigh_not, weigh_none, weigh_met, weigh_is, best_exceeds, tried_starts, tried_is, order_made, order_ends, order_skips, turns_all, larger_none, larger_most, own_is, sum_not, sum_is_lem, sum_made, sum_alone, sum_ends}
 use Rattle.bound.proofs.interference.+interference.Goals as goal
 use Rattle.bound.proofs.interference.+interference.Goals.{first_greatest-then-value-new, first_greatest-else-value-new}
 
@@ -67,12 +67,12 @@ first_greatest-loop-i-preserved t c =
       giver_most = elim c.if-value-new.branch [ first_greatest-then-value-new w ↦ omega arith | first_greatest-else-value-new w ↦ omega arith ];
       most = elim c.if-value-new.branch [ first_greatest-then-value-new w ↦ omega arith | first_greatest-else-value-new w ↦ omega arith ];
       found = λ s shown.
-        let made = c.in-Of.ensures.is s shown in
-        let found = c.loop-i.invariant.found s shown in
-        elim c.if-value-new.branch [
-          first_greatest-then-value-new w ↦ best_greater _ _ _ _ _ _ _ _ _ made found _ _ w.if-value-new.true w.value-is w.giver-is
-        | first_greatest-else-value-new w ↦ best_stays _ _ _ _ _ _ _ _ _ made found _ _ w.if-value-new.false w.value-is w.giver-is
-        ];
+          let made = c.in-Of.ensures.is s shown in
+          let found = c.loop-i.invariant.found s shown in
+          elim c.if-value-new.branch [
+            | first_greatest-then-value-new w ↦ best_greater _ _ _ _ _ _ _ _ _ made found _ _ w.if-value-new.true w.value-is w.giver-is
+            | first_greatest-else-value-new w ↦ best_stays _ _ _ _ _ _ _ _ _ made found _ _ w.if-value-new.false w.value-is w.giver-is
+          ];
     }
 
 pub first_greatest-returns-clause-is : goal.first_greatest-returns-clause-is
@@ -110,7 +110,7 @@ pub largest_order-loop-task-preserved-then-not-remaining-task : goal.largest_ord
 largest_order-loop-task-preserved-then-not-remaining-task t c = record {
   most = omega arith;
   found = λ s shown.
-    order_goes _ _ _ _ _ _ _ _ _ (order_skips _ _ s _ _ _ _ _ _ c.if-not-remaining-task.true) _ (sym (larger_none _)) (c.loop-task.invariant.found s shown);
+      order_goes _ _ _ _ _ _ _ _ _ (order_skips _ _ s _ _ _ _ _ _ c.if-not-remaining-task.true) _ (sym (larger_none _)) (c.loop-task.invariant.found s shown);
 }
 
 pub largest_order-returns-in_default-clause-is : goal.largest_order-returns-in_default-clause-is

@@ -1,6 +1,6 @@
 -- What falls from call to call in the cycle of the two calculations: the tasks outside B, then the depth or the tasks left to order. What its loops
 -- keep: the value grows by at most a million for each weighing, and is that of the turns made so far. Assumes nothing.
-use Rattle.std.proofs.Common.{◌≡◌, ℕ, ◌+◌, ◌-◌, ◌*◌, ◌≤◌}
+use Rattle.std.proofs.Common.{◌≡◌, ◌+◌, ◌-◌, ◌*◌, ◌≤◌}
 use Rattle.bound.specs.declared.Sections.{Sections}
 use Rattle.bound.specs.declared.Tally.TheVariants.{Of}
 use Rattle.bound.specs.Interference.{both, larger, gathered, weighing, weighed_on, first_greatest, tried_next, order, ordering, sum_over, level}
@@ -37,15 +37,15 @@ invariant-first_greatest-loop-i l = record {
   giver_most : l.giver ≤ l.reach.count;
   most : l.value + 1000000 * l.kept ≤ 1000000 * l.allowance;
   found : (s : Sections) → Shown s l.rows (sets_of l.outer) l.reach.count → let weigh = weighing (level l.reach.left 12 s) s l.b (resources_of l.held) in
-    Of l.value l.giver l.kept ≡ spend (gathered first_greatest (weighed_on weigh s l.resource l.task) l.i) l.allowance;
+      Of l.value l.giver l.kept ≡ spend (gathered first_greatest (weighed_on weigh s l.resource l.task) l.i) l.allowance;
 }
 
 abbrev pub invariant-largest_order-loop-task : goal.invariant-largest_order-loop-task
 invariant-largest_order-loop-task l = record {
   most : l.value + 1000000 * l.kept ≤ 1000000 * l.allowance;
   found : (s : Sections) → Shown s l.rows (sets_of l.outer) l.reach.count → let weigh = weighing (level l.reach.left 12 s) s in
-    let tried = tried_next weigh (order (l.reach.depth - 1) weigh s l.resource) s l.resource l.b l.remaining (resources_of l.held) in
-    Of l.value 0 l.kept ≡ spend (gathered (λ x. larger) tried l.task) l.allowance;
+      let tried = tried_next weigh (order (l.reach.depth - 1) weigh s l.resource) s l.resource l.b l.remaining (resources_of l.held) in
+      Of l.value 0 l.kept ≡ spend (gathered (λ x. larger) tried l.task) l.allowance;
 }
 
 abbrev pub invariant-interference_sum-loop-c : goal.invariant-interference_sum-loop-c
@@ -56,6 +56,6 @@ invariant-interference_sum-loop-c l = record {
   few : l.reach.count ≤ 12;
   most : l.value + 1000000 * l.kept ≤ 1000000 * l.allowance;
   found : (s : Sections) → Shown s l.rows (sets_of l.outer) l.reach.count → let ordered = ordering l.reach.left (level (l.reach.left - 1) 12 s) s l.b in
-    let added = sum_over ordered (level l.reach.left (l.reach.depth - 1) s l.b l.task) s l.task (parent_of l.ordinal) (resources_of l.r) in
-    Of l.value 0 l.kept ≡ spend (gathered (λ c. both) added l.c) l.allowance;
+      let added = sum_over ordered (level l.reach.left (l.reach.depth - 1) s l.b l.task) s l.task (parent_of l.ordinal) (resources_of l.r) in
+      Of l.value 0 l.kept ≡ spend (gathered (λ c. both) added l.c) l.allowance;
 }

@@ -1,9 +1,5 @@
 -- `bound::table::children_fit` meets its contract. Assumes nothing.
-use mathlib.Core.Path.{◌≡◌}
-use Prim.Native.Nat.{◌≤◌, ◌-◌, ◌*◌}
-use borrow.Author.Rules.{rules}
 use native.Mathlib.Omega.{arith}
-use Rattle.laws.specs.Loops.{sum_to}
 use Rattle.laws.proofs.Sum.{sum_none, sum_more, sum_done}
 use Rattle.bound.specs.Table.{child_length}
 use Rattle.bound.proofs.Refusals.{children_are}
