@@ -15,9 +15,9 @@ use Rattle.laws.specs.Loops.{all_to}
 use Rattle.laws.proofs.Cases.{split}
 use Rattle.laws.proofs.All.{all_ext}
 use Rattle.laws.proofs.Reflect.{Reflects, reflects_le, reflects_lt, reflects_and, reflects_or, reflects_fails}
-use Rattle.bytes.specs.Numbers.{byte_at, two_bytes, Bytes}
-use Rattle.bytes.specs.Writing.{stored}
-use Rattle.bytes.proofs.Writing.{stored_length}
+use Rattle.lent_bytes.specs.Numbers.{byte_at, two_bytes, Bytes}
+use Rattle.lent_bytes.specs.Writing.{stored}
+use Rattle.lent_bytes.proofs.Writing.{stored_length}
 use Rattle.model.specs.declared.State.{State}
 use Rattle.model.specs.Fresh.{blank_server, blank_task, blank_resource}
 use Rattle.image.specs.Layout.{header_size, server_size, task_size, resource_size, servers_offset, tasks_offset, resources_offset, image_size, used}

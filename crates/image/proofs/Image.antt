@@ -16,11 +16,11 @@ use Rattle.laws.proofs.All.{all_at, all_each}
 use Rattle.model.specs.declared.State.{State}
 use Rattle.model.specs.State.{places, no_server, no_task, no_resource, server_at, task_at, resource_at}
 use Rattle.model.specs.Fresh.{blank_server, blank_task, blank_resource, unusable}
-use Rattle.bytes.specs.Numbers.{two_bytes, four_bytes, two, four, Bytes, Fits16, Fits32}
-use Rattle.bytes.specs.Writing.{stored}
-use Rattle.bytes.proofs.Writing.{stored_length}
-use Rattle.bytes.proofs.Stands.{Stands}
-use Rattle.bytes.proofs.Codec.{Codec, ◌then◌, Any, two_codec, four_codec}
+use Rattle.lent_bytes.specs.Numbers.{two_bytes, four_bytes, two, four, Bytes, Fits16, Fits32}
+use Rattle.lent_bytes.specs.Writing.{stored}
+use Rattle.lent_bytes.proofs.Writing.{stored_length}
+use Rattle.lent_bytes.proofs.Stands.{Stands}
+use Rattle.lent_bytes.proofs.Codec.{Codec, ◌then◌, Any, two_codec, four_codec}
 use Rattle.image.specs.declared.ImageAnswer.TheVariants.{Held, Refused}
 use Rattle.image.specs.Layout.{header_size, server_size, task_size, resource_size, servers_offset, tasks_offset, resources_offset, image_size, used}
 use Rattle.image.specs.Encoded.{entries, server_bytes, task_bytes, resource_bytes, header_bytes, servers_bytes, tasks_bytes, resources_bytes, encoded, written}

@@ -7,7 +7,7 @@ use native.Mathlib.Omega.{arith}
 use lib.Dec.{ltb}
 use lib.ListN.{replicate}
 use Rattle.laws.proofs.Set.{set_same}
-use Rattle.bytes.specs.Numbers.{byte_at, two_bytes, four_bytes}
+use Rattle.lent_bytes.specs.Numbers.{byte_at, two_bytes, four_bytes}
 use Rattle.model.specs.State.{places}
 use Rattle.image.specs.Encoded.{no_task_no}
 use Rattle.image.specs.Decoded.{phase_of, mode_of, runs_of, owner_of, tag_fits, tagged_in, tagged_fits, server_fits, task_fits, resource_fits, entry_in, entries_in, task_no_in, server_in, task_in, resource_in}

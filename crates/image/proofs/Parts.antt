@@ -13,9 +13,9 @@ use Rattle.laws.specs.Loops.{set_to}
 use Rattle.laws.proofs.Cases.{split, and_left, and_right, and_both}
 use Rattle.laws.proofs.Join.{join_long}
 use Rattle.laws.proofs.Set.{set_at_lem, set_same, length_set_to}
-use Rattle.bytes.specs.Numbers.{byte_at, one, two, Bytes, Fits16}
-use Rattle.bytes.proofs.Stands.{Stands, stands_part, Stands-parts}
-use Rattle.bytes.proofs.Codec.{Codec, ◌then◌, recoded, Any, two_codec, four_codec}
+use Rattle.lent_bytes.specs.Numbers.{byte_at, one, two, Bytes, Fits16}
+use Rattle.lent_bytes.proofs.Stands.{Stands, stands_part, Stands-parts}
+use Rattle.lent_bytes.proofs.Codec.{Codec, ◌then◌, recoded, Any, two_codec, four_codec}
 use Rattle.model.specs.declared.TaskNo.{TaskNo}
 use Rattle.model.specs.declared.Phase.TheVariants.{Idle, Active, Running, Recharging}
 use Rattle.model.specs.declared.Mode.TheVariants.{Suspended, Ready, Waiting}

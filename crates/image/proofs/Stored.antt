@@ -9,9 +9,9 @@ use native.Mathlib.Omega.{arith}
 use lib.ListN.{length, set, length-set}
 use lib.Seq.{get_or-set_same, get_or-set_other, set-get_or}
 use Rattle.laws.proofs.Lists.{set_both}
-use Rattle.bytes.specs.Numbers.{byte_at}
-use Rattle.bytes.specs.Writing.{stored}
-use Rattle.bytes.proofs.Stands.{Stands, moved}
+use Rattle.lent_bytes.specs.Numbers.{byte_at}
+use Rattle.lent_bytes.specs.Writing.{stored}
+use Rattle.lent_bytes.proofs.Stands.{Stands, moved}
 
 -- a byte before or after the part
 pub stored_outside : (vs l : List ℕ) (at i : ℕ) → (i < at) ⊎ (at + length vs ≤ i) → byte_at (stored l at vs) i ≡ byte_at l i

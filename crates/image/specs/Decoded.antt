@@ -5,7 +5,7 @@ use Rattle.std.specs.Prelude.{Bool, ◌&&◌, ◌||◌, List, ℕ, ◌+◌, ◌*
 use Rattle.std.proofs.Math.Option.{Option, none, some}
 use Rattle.laws.specs.Tests.{if◌then◌else◌}
 use Rattle.laws.specs.Loops.{all_to, set_to}
-use Rattle.bytes.specs.Numbers.{byte_at, two_bytes, four_bytes}
+use Rattle.lent_bytes.specs.Numbers.{byte_at, two_bytes, four_bytes}
 use Rattle.model.specs.declared.TaskNo.{TaskNo}
 use Rattle.model.specs.declared.Phase.{Phase}
 use Rattle.model.specs.declared.Phase.TheVariants.{Idle, Active, Running, Recharging}

@@ -3,8 +3,8 @@
 use Rattle.std.specs.Prelude.{List, ◌++◌, ℕ, eqb, length, get_or}
 use Rattle.laws.specs.Tests.{if◌then◌else◌}
 use Rattle.laws.specs.Loops.{join_to}
-use Rattle.bytes.specs.Numbers.{one, two, four}
-use Rattle.bytes.specs.Writing.{stored}
+use Rattle.lent_bytes.specs.Numbers.{one, two, four}
+use Rattle.lent_bytes.specs.Writing.{stored}
 use Rattle.model.specs.declared.TaskNo.{TaskNo}
 use Rattle.model.specs.declared.Phase.{Phase}
 use Rattle.model.specs.declared.Phase.TheVariants.{Idle, Active, Running, Recharging}

@@ -1,7 +1,7 @@
 -- What the types of the code say of a state: each number fits its width, and each array has its sixteen places. antt sees neither in a list of
 -- numbers; of any value of the code both hold. Assumes nothing.
 use Rattle.std.specs.Prelude.{◌≡◌, List, ℕ, ◌<◌, length, get_or}
-use Rattle.bytes.specs.Numbers.{Fits16, Fits32}
+use Rattle.lent_bytes.specs.Numbers.{Fits16, Fits32}
 use Rattle.model.specs.declared.TaskNo.{TaskNo}
 use Rattle.model.specs.declared.Server.{Server}
 use Rattle.model.specs.declared.Task.{Task}

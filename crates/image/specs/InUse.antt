@@ -1,7 +1,7 @@
 -- Which bytes of an image are in use, and when two images are alike there: what the laws on entries past the counts speak of (rule 1.7). Assumes nothing.
 use Rattle.std.specs.Prelude.{◌≡◌, Bool, true, false, ◌&&◌, ◌||◌, List, ℕ, ◌+◌, ◌*◌, ltb, leb, length, replicate}
 use Rattle.laws.specs.Loops.{set_to}
-use Rattle.bytes.specs.Numbers.{byte_at}
+use Rattle.lent_bytes.specs.Numbers.{byte_at}
 use Rattle.model.specs.declared.State.{State}
 use Rattle.model.specs.State.{places, server_at, task_at, resource_at}
 use Rattle.model.specs.Fresh.{blank_server, blank_task, blank_resource}

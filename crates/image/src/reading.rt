@@ -1,7 +1,7 @@
 // A state read out of lent bytes: the header and the entries in use; the others are blank, whatever stands in their bytes. Each function of an entry is
 // given an offset at which the entry lies whole in the slice; `read` assumes nothing.
 ghost use Rattle.std.specs.Prelude.{◌≡◌, ◌+◌, ◌≤◌, length};
-ghost use Rattle.bytes.specs.Numbers.{two_bytes};
+ghost use Rattle.lent_bytes.specs.Numbers.{two_bytes};
 ghost use Rattle.image.specs.Layout.{image_size};
 ghost use Rattle.image.specs.Encoded.{no_task_no};
 ghost use Rattle.image.specs.Decoded.{entries_in, task_no_in, server_in, task_in, resource_in, state_in, decoded, imaged_by};
@@ -12,7 +12,7 @@ use crate::sizes::{
 use crate::tags::{mode_of, owner_of, phase_of, runs_of, tagged_in};
 use crate::testing::{is_image, used};
 use crate::{ImageAnswer, Imaged};
-use bytes::numbers::{four_bytes, two_bytes};
+use lent_bytes::numbers::{four_bytes, two_bytes};
 use model::blank::unusable_state;
 use model::{Resource, Server, State, Task, TaskNo};
 

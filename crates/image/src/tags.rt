@@ -5,7 +5,7 @@ ghost use Rattle.image.specs.Encoded.{phase_tag, mode_tagged, runs_tagged, owner
 ghost use Rattle.image.specs.Decoded.{phase_of, mode_of, runs_of, owner_of, tagged_in, tag_fits};
 
 use crate::Tagged;
-use bytes::numbers::two_bytes;
+use lent_bytes::numbers::two_bytes;
 use model::{Mode, Owner, Phase, Runs, ServerNo, TaskNo};
 
 pub fn phase_tag(p: Phase) -> u8

@@ -9,7 +9,7 @@ use crate::sizes::{
     TASKS_OFFSET,
 };
 use crate::tags::{tag_fits, tagged_in};
-use bytes::numbers::two_bytes;
+use lent_bytes::numbers::two_bytes;
 
 fn tagged_fits(last: u8, bytes: &[u8], at: usize) -> bool
     requires { at + 3 ≤ length bytes.now }

@@ -1,8 +1,8 @@
 // A state written into lent bytes: the header and the entries in use; every other byte stays. Each function of an entry is given an offset at which the
 // entry lies whole in the slice; `write` assumes nothing.
 ghost use Rattle.std.specs.Prelude.{◌≡◌, ◌+◌, ◌≤◌, eqb, length};
-ghost use Rattle.bytes.specs.Numbers.{two};
-ghost use Rattle.bytes.specs.Writing.{stored};
+ghost use Rattle.lent_bytes.specs.Numbers.{two};
+ghost use Rattle.lent_bytes.specs.Writing.{stored};
 ghost use Rattle.image.specs.Layout.{image_size};
 ghost use Rattle.image.specs.Encoded.{tagged_bytes, entries, no_task_no, task_no_bytes, server_bytes, task_bytes, resource_bytes, written};
 
@@ -13,7 +13,7 @@ use crate::sizes::{
 };
 use crate::tags::{mode_tagged, owner_tagged, phase_tag, runs_tagged};
 use crate::testing::used;
-use bytes::numbers::{put_four, put_one, put_two};
+use lent_bytes::numbers::{put_four, put_one, put_two};
 use model::{Resource, Server, State, Task, TaskNo};
 
 fn put_tagged(bytes: &mut [u8], at: usize, t: Tagged)

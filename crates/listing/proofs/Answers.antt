@@ -8,8 +8,8 @@ use lib.Dec.{leb}
 use lib.ListN.{length, drop}
 use borrow.Author.Tests.{lt-ltb, le-ltb, le-leb, lt-leb, leb-true, leb-false}
 use Rattle.laws.proofs.Cases.{split}
-use Rattle.bytes.specs.Writing.{Wrote}
-use Rattle.bytes.proofs.Writing.{stored_first}
+use Rattle.lent_bytes.specs.Writing.{Wrote}
+use Rattle.lent_bytes.proofs.Writing.{stored_first}
 use Rattle.trace.specs.Reading.{items}
 use Rattle.trace.specs.Order.{file_limit}
 use Rattle.listing.specs.declared.Replayed.{Replayed}

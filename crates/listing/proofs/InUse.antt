@@ -10,8 +10,8 @@ use Rattle.laws.proofs.Join.{join_none, join_more}
 use Rattle.model.specs.declared.State.{State}
 use Rattle.model.specs.State.{here, server_at, task_at}
 use Rattle.listing.specs.Listing.{server_text, server_line, task_text, task_line}
-use Rattle.bytes.specs.Writing.{Wrote}
-use Rattle.bytes.proofs.Writing.{wrote_none, wrote_then, wrote_most}
+use Rattle.lent_bytes.specs.Writing.{Wrote}
+use Rattle.lent_bytes.proofs.Writing.{wrote_none, wrote_then, wrote_most}
 
 module _ (m : ℕ) (f : ℕ → List ℕ) where
   pub lines_none : (l : List ℕ) (at : ℕ) → Wrote (m * 0) l at (join_to 0 f) l at

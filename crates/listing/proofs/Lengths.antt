@@ -23,7 +23,7 @@ use Rattle.trace.specs.declared.Read.TheVariants.{Got, End, Fault}
 use Rattle.trace.specs.Reading.{read_at, items_after, items_from, items_at, items}
 use Rattle.trace.specs.Order.{Stage, opening, entering, complete, order_refusal, advanced, file_limit}
 use Rattle.trace.proofs.Items.{read_moves}
-use Rattle.bytes.specs.Text.{bytes, digits, digits_most, decimal}
+use Rattle.lent_bytes.specs.Text.{bytes, digits, digits_most, decimal}
 use Rattle.listing.specs.Text.{field, following, newline, spelled, phase_word, field_most, phase_most, short_line_most, event_line_most, server_line_most, end_lines_most}
 use Rattle.listing.specs.Listing.{Progress, beginning, started, continued, event_line, stop_line, server_text, server_line, task_text, task_line, end_lines, end_text, record_text, read_text, items_text, listing}
 use Rattle.listing.specs.Replay.{room_each, room_more, room}

@@ -26,8 +26,8 @@ use Rattle.listing.specs.Text.{event_line_most}
 use Rattle.listing.specs.Listing.{Progress, event_line, read_text, items_text}
 use Rattle.listing.specs.Replay.{room_each, room_more, room}
 use Rattle.listing.specs.Computed.{text_from, running}
-use Rattle.bytes.specs.Writing.{Wrote}
-use Rattle.bytes.proofs.Writing.{wrote_none, wrote_then, wrote_most}
+use Rattle.lent_bytes.specs.Writing.{Wrote}
+use Rattle.lent_bytes.proofs.Writing.{wrote_none, wrote_then, wrote_most}
 use Rattle.listing.proofs.Texts.{text_event}
 
 -- past the table the text does not depend on it

@@ -17,7 +17,7 @@ use Rattle.trace.specs.declared.Read.{Read}
 use Rattle.trace.specs.declared.Read.TheVariants.{Got, End, Fault}
 use Rattle.trace.specs.Reading.{items}
 use Rattle.trace.specs.Order.{Stage, opening, entering, complete, order_refusal, advanced, file_limit}
-use Rattle.bytes.specs.Text.{bytes, decimal}
+use Rattle.lent_bytes.specs.Text.{bytes, decimal}
 use Rattle.listing.specs.Text.{field, following, newline, spelled, phase_word}
 
 -- an event's line: rule 14.1

@@ -2,7 +2,7 @@
 use Rattle.std.specs.Prelude.{List, ℕ, ◌+◌, ◌*◌, leb, length}
 use Rattle.std.proofs.Math.Option.{none}
 use Rattle.laws.specs.Tests.{if◌then◌else◌}
-use Rattle.bytes.specs.Writing.{stored}
+use Rattle.lent_bytes.specs.Writing.{stored}
 use Rattle.model.specs.Said.{Saying, ok, refused}
 use Rattle.trace.specs.Order.{file_limit}
 use Rattle.listing.specs.declared.Replayed.{Replayed}

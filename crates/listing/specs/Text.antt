@@ -1,7 +1,7 @@
 -- Words, fields and lines as bytes (rule 14.5). Assumes nothing.
 use Rattle.std.specs.Prelude.{List, [], ◌++◌, ℕ, ◌+◌, ◌*◌}
 use Rattle.std.proofs.Math.Option.{Option, none, some}
-use Rattle.bytes.specs.Text.{bytes, digits_most, decimal}
+use Rattle.lent_bytes.specs.Text.{bytes, digits_most, decimal}
 use Rattle.model.specs.declared.Phase.{Phase}
 use Rattle.model.specs.declared.Phase.TheVariants.{Idle, Active, Running, Recharging}
 use Rattle.model.specs.State.{places}

@@ -2,14 +2,14 @@
 // function is given a buffer that has room for the longest text that it can write.
 ghost use Rattle.std.specs.Prelude.{◌++◌, ◌+◌, ◌*◌, ◌≤◌, length};
 ghost use Rattle.laws.specs.Loops.{join_to};
-ghost use Rattle.bytes.specs.Text.{bytes};
-ghost use Rattle.bytes.specs.Writing.{Wrote};
+ghost use Rattle.lent_bytes.specs.Text.{bytes};
+ghost use Rattle.lent_bytes.specs.Writing.{Wrote};
 ghost use Rattle.model.specs.State.{places};
 ghost use Rattle.listing.specs.Text.{field, phase_word, phase_most, short_line_most, server_phase_most, server_line_most, end_lines_most};
 ghost use Rattle.listing.specs.Listing.{server_text, server_line, task_text, task_line, end_lines};
 
 use crate::lines::{put_field, put_line, put_named, put_pair};
-use bytes::text::put_text;
+use lent_bytes::text::put_text;
 use model::{Phase, Server, State};
 
 fn put_phase(out: &mut [u8], at: usize, phase: Phase) -> usize

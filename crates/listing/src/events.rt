@@ -2,7 +2,7 @@
 // keeps it so (law `kept`), so that no event is tested for it. The function is given a buffer with room for the listing of every file of the trace's
 // length, and a sound state.
 ghost use Rattle.std.specs.Prelude.{◌≡◌, true, ◌≤◌, length};
-ghost use Rattle.bytes.specs.Writing.{Wrote};
+ghost use Rattle.lent_bytes.specs.Writing.{Wrote};
 ghost use Rattle.model.specs.Shape.{Shaped};
 ghost use Rattle.model.specs.Sound.{sound};
 ghost use Rattle.listing.specs.Replay.{room};

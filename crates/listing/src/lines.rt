@@ -1,11 +1,11 @@
 // Fields and lines of the listing, written from an offset on; each function answers the offset after what it wrote. Each is given a buffer that has
 // room for the longest text that it can write.
 ghost use Rattle.std.specs.Prelude.{◌++◌, ◌+◌, ◌≤◌, length};
-ghost use Rattle.bytes.specs.Writing.{Wrote};
+ghost use Rattle.lent_bytes.specs.Writing.{Wrote};
 ghost use Rattle.listing.specs.Text.{field, newline, field_most, pair_most, answer_most, short_line_most, event_line_most};
 ghost use Rattle.listing.specs.Listing.{answer_text, event_line, stop_line};
 
-use bytes::text::{put_number, put_text};
+use lent_bytes::text::{put_number, put_text};
 use model::Answer;
 
 // A number after a space.

@@ -2,7 +2,7 @@
 // Each function is given a buffer with room for the listing of every file of the trace's length.
 ghost use Rattle.std.specs.Prelude.{◌≡◌, true, ◌≤◌, length};
 ghost use Rattle.std.proofs.Math.Option.{none};
-ghost use Rattle.bytes.specs.Writing.{Wrote};
+ghost use Rattle.lent_bytes.specs.Writing.{Wrote};
 ghost use Rattle.model.specs.Fresh.{fresh_refusal, fresh_state, fresh_of};
 ghost use Rattle.model.specs.Sound.{counts_fit};
 ghost use Rattle.trace.specs.Order.{entering, counted_table};

@@ -14,7 +14,7 @@ use Rattle.trace.specs.declared.Place.{Place}
 use Rattle.trace.specs.declared.Record.{Record}
 use Rattle.trace.specs.declared.Read.{Read}
 use Rattle.trace.specs.declared.Read.TheVariants.{Got, End, Fault}
-use Rattle.bytes.specs.Numbers.{two_bytes}
+use Rattle.lent_bytes.specs.Numbers.{two_bytes}
 use Rattle.trace.specs.Reading.{body_length, read_fault, read_by, read_at, items_after, items_from, items_at}
 use Rattle.trace.proofs.Bodies.{body_least}
 

@@ -7,7 +7,7 @@ use lib.Dec.{eqb}
 use borrow.Author.Tests.{le-leb, ne_eqb, eqb-false}
 use Rattle.laws.proofs.Cases.{split}
 use Rattle.model.specs.declared.Event.{Event}
-use Rattle.bytes.specs.Numbers.{two_bytes, four_bytes}
+use Rattle.lent_bytes.specs.Numbers.{two_bytes, four_bytes}
 use Rattle.trace.specs.declared.Record.TheVariants.{Happening}
 use Rattle.trace.specs.Reading.{event_of, record_in}
 

@@ -8,7 +8,7 @@ use borrow.Author.Tests.{lt-leb, le-leb, lt-ltb, le-ltb, eq-eqb, ne_eqb}
 use Rattle.laws.specs.Tests.{first_of}
 use Rattle.trace.specs.declared.Record.{Record}
 use Rattle.trace.specs.declared.Read.TheVariants.{Got, End, Fault}
-use Rattle.bytes.specs.Numbers.{two_bytes}
+use Rattle.lent_bytes.specs.Numbers.{two_bytes}
 use Rattle.trace.specs.Reading.{body_length, record_in, read_fault, read_at}
 
 module _ (file : List ℕ) (at : ℕ) where

@@ -2,7 +2,7 @@
 use Rattle.std.specs.Prelude.{Bool, not, ◌&&◌, ◌||◌, List, [], ◌∷◌, ℕ, zero, suc, ◌+◌, ◌-◌, ltb, leb, eqb, length}
 use Rattle.std.proofs.Math.Option.{Option, none, some}
 use Rattle.laws.specs.Tests.{if◌then◌else◌, ◌when◌or◌, accepted, first_of}
-use Rattle.bytes.specs.Numbers.{two_bytes, four_bytes}
+use Rattle.lent_bytes.specs.Numbers.{two_bytes, four_bytes}
 use Rattle.model.specs.declared.Entry.{Entry}
 use Rattle.model.specs.declared.Event.{Event}
 use Rattle.model.specs.declared.Event.TheVariants.{Wake, Suspend, Dispatch, Preempt, Elapse, Recharge, Lock, Unlock}

@@ -3,7 +3,7 @@
 ghost use Rattle.std.specs.Prelude.{◌≡◌, ◌+◌, ◌≤◌, length};
 ghost use Rattle.trace.specs.Reading.{entry_in};
 
-use bytes::numbers::{four_bytes, two_bytes};
+use lent_bytes::numbers::{four_bytes, two_bytes};
 use model::Entry;
 
 pub fn entry_in(file: &[u8], at: usize) -> Entry

@@ -6,7 +6,7 @@ ghost use Rattle.trace.specs.Reading.{body_length, record_in, read_at};
 use crate::kinds::{body_length, event_of};
 use crate::lines::entry_in;
 use crate::{Place, Read, Record};
-use bytes::numbers::{four_bytes, two_bytes};
+use lent_bytes::numbers::{four_bytes, two_bytes};
 
 // The record of a known kind. An operand that the kind has not is handed over as 0.
 fn record_in(kind: u16, file: &[u8], at: usize) -> Record

@@ -5,7 +5,7 @@ use native.Mathlib.Omega.{arith}
 use lib.ListN.{replicate}
 use Rattle.laws.specs.Loops.{set_to}
 use Rattle.laws.proofs.Set.{set_none, set_more}
-use Rattle.bytes.specs.Numbers.{two_bytes}
+use Rattle.lent_bytes.specs.Numbers.{two_bytes}
 use Rattle.image.specs.Decoded.{entry_in}
 use Rattle.image.proofs.Image.{entries_read}
 use Rattle.image.proofs.reading.held_in.Statement.{statement}

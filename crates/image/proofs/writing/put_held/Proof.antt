@@ -1,10 +1,10 @@
 -- `image::writing::put_held` meets its contract. Assumes nothing.
 use Prim.Native.Nat.{◌-◌}
 use native.Mathlib.Omega.{arith}
-use Rattle.bytes.specs.Numbers.{two}
+use Rattle.lent_bytes.specs.Numbers.{two}
 use Rattle.image.specs.Encoded.{entries, entry_bytes}
-use Rattle.bytes.proofs.Codec.{two_long}
-use Rattle.bytes.proofs.Parts.{Filled, filled_none, Filled-more, filled_done}
+use Rattle.lent_bytes.proofs.Codec.{two_long}
+use Rattle.lent_bytes.proofs.Parts.{Filled, filled_none, Filled-more, filled_done}
 use Rattle.image.proofs.writing.put_held.Statement.{statement}
 use Rattle.image.proofs.writing.put_held.Tie as tie
 

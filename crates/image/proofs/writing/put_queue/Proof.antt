@@ -2,8 +2,8 @@
 use Prim.Native.Nat.{◌-◌}
 use native.Mathlib.Omega.{arith}
 use Rattle.image.specs.Encoded.{entries, entry_bytes, no_task_no, task_no_bytes}
-use Rattle.bytes.proofs.Codec.{two_long}
-use Rattle.bytes.proofs.Parts.{Filled, filled_none, Filled-more, filled_done}
+use Rattle.lent_bytes.proofs.Codec.{two_long}
+use Rattle.lent_bytes.proofs.Parts.{Filled, filled_none, Filled-more, filled_done}
 use Rattle.image.proofs.writing.put_queue.Statement.{statement}
 use Rattle.image.proofs.writing.put_queue.Tie as tie
 

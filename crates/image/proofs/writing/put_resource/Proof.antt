@@ -3,8 +3,8 @@ use mathlib.Core.Path.{refl}
 use borrow.Author.Rules.{rules}
 use Rattle.image.specs.Encoded.{resource_bytes}
 use Rattle.image.proofs.Parts.{tagged_long, queue_long}
-use Rattle.bytes.proofs.Codec.{two_long}
-use Rattle.bytes.proofs.Parts.{first, next}
+use Rattle.lent_bytes.proofs.Codec.{two_long}
+use Rattle.lent_bytes.proofs.Parts.{first, next}
 use Rattle.image.proofs.writing.put_resource.Statement.{statement}
 use Rattle.image.proofs.writing.put_resource.Tie as tie
 

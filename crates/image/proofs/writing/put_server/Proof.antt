@@ -2,8 +2,8 @@
 use mathlib.Core.Path.{refl}
 use borrow.Author.Rules.{rules}
 use Rattle.image.specs.Encoded.{server_bytes}
-use Rattle.bytes.proofs.Codec.{one_long, four_long}
-use Rattle.bytes.proofs.Parts.{first, next}
+use Rattle.lent_bytes.proofs.Codec.{one_long, four_long}
+use Rattle.lent_bytes.proofs.Parts.{first, next}
 use Rattle.image.proofs.writing.put_server.Statement.{statement}
 use Rattle.image.proofs.writing.put_server.Tie as tie
 

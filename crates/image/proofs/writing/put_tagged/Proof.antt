@@ -2,8 +2,8 @@
 use mathlib.Core.Path.{refl}
 use borrow.Author.Rules.{rules}
 use Rattle.image.specs.Encoded.{tagged_bytes}
-use Rattle.bytes.proofs.Codec.{one_long, two_long}
-use Rattle.bytes.proofs.Parts.{first, next}
+use Rattle.lent_bytes.proofs.Codec.{one_long, two_long}
+use Rattle.lent_bytes.proofs.Parts.{first, next}
 use Rattle.image.proofs.writing.put_tagged.Statement.{statement}
 use Rattle.image.proofs.writing.put_tagged.Tie as tie
 

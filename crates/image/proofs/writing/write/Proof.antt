@@ -10,8 +10,8 @@ use Rattle.model.specs.State.{no_server, no_task, no_resource}
 use Rattle.image.specs.Encoded.{entries, entry_bytes, server_bytes, task_bytes, resource_bytes, header_bytes}
 use Rattle.image.proofs.Parts.{server_codec, task_codec, resource_codec}
 use Rattle.image.proofs.Image.{write_whole, write_none}
-use Rattle.bytes.proofs.Codec.{two_long, four_long}
-use Rattle.bytes.proofs.Parts.{first, next, Filled, filled_none, Filled-more, filled_done}
+use Rattle.lent_bytes.proofs.Codec.{two_long, four_long}
+use Rattle.lent_bytes.proofs.Parts.{first, next, Filled, filled_none, Filled-more, filled_done}
 use Rattle.image.proofs.writing.write.Statement.{statement}
 use Rattle.image.proofs.writing.write.Tie as tie
 

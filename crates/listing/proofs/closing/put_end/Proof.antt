@@ -1,9 +1,9 @@
 -- `listing::closing::put_end` meets its contract. Assumes nothing.
 use borrow.Author.Rules.{rules}
-use Rattle.bytes.specs.Text.{bytes}
+use Rattle.lent_bytes.specs.Text.{bytes}
 use Rattle.listing.specs.Text.{newline}
 use Rattle.listing.specs.Listing.{end_lines}
-use Rattle.bytes.proofs.Writing.{wrote_then}
+use Rattle.lent_bytes.proofs.Writing.{wrote_then}
 use Rattle.listing.proofs.closing.put_end.Statement.{statement}
 use Rattle.listing.proofs.closing.put_end.Tie as tie
 

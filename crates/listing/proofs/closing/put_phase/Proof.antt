@@ -1,9 +1,9 @@
 -- `listing::closing::put_phase` meets its contract. Assumes nothing.
 use borrow.Author.Rules.{rules}
 use native.Mathlib.Omega.{arith}
-use Rattle.bytes.specs.Text.{bytes}
+use Rattle.lent_bytes.specs.Text.{bytes}
 use Rattle.listing.specs.Text.{phase_word}
-use Rattle.bytes.proofs.Writing.{wrote_most}
+use Rattle.lent_bytes.proofs.Writing.{wrote_most}
 use Rattle.listing.proofs.closing.put_phase.Statement.{statement}
 use Rattle.listing.proofs.closing.put_phase.Tie as tie
 

@@ -2,8 +2,8 @@
 use mathlib.Core.Path.{◌∙◌}
 use borrow.Author.Rules.{rules}
 use native.Mathlib.Omega.{arith}
-use Rattle.bytes.specs.Text.{bytes}
-use Rattle.bytes.proofs.Writing.{wrote_then, wrote_pair}
+use Rattle.lent_bytes.specs.Text.{bytes}
+use Rattle.lent_bytes.proofs.Writing.{wrote_then, wrote_pair}
 use Rattle.listing.specs.Text.{newline}
 use Rattle.listing.proofs.closing.put_server.Statement.{statement}
 use Rattle.listing.proofs.closing.put_server.Tie as tie

@@ -8,7 +8,7 @@ use Rattle.laws.specs.Loops.{join_to}
 use Rattle.model.specs.State.{places, here}
 use Rattle.listing.specs.Text.{server_line_most}
 use Rattle.listing.specs.Listing.{server_line}
-use Rattle.bytes.specs.Writing.{Wrote}
+use Rattle.lent_bytes.specs.Writing.{Wrote}
 use Rattle.listing.proofs.InUse.{lines_none, lines_more, lines_skip, lines_done, server_line_lem, no_server_lem}
 use Rattle.listing.proofs.closing.put_servers.Statement.{statement}
 use Rattle.listing.proofs.closing.put_servers.Tie as tie

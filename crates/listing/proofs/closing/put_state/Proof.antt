@@ -1,7 +1,7 @@
 -- `listing::closing::put_state` meets its contract. Assumes nothing.
 use borrow.Author.Rules.{rules}
-use Rattle.bytes.specs.Text.{bytes}
-use Rattle.bytes.proofs.Writing.{wrote_then}
+use Rattle.lent_bytes.specs.Text.{bytes}
+use Rattle.lent_bytes.proofs.Writing.{wrote_then}
 use Rattle.listing.proofs.closing.put_state.Statement.{statement}
 use Rattle.listing.proofs.closing.put_state.Tie as tie
 

@@ -1,6 +1,6 @@
 -- `listing::closing::put_task` meets its contract. Assumes nothing.
 use borrow.Author.Rules.{rules}
-use Rattle.bytes.specs.Text.{bytes}
+use Rattle.lent_bytes.specs.Text.{bytes}
 use Rattle.listing.proofs.closing.put_task.Statement.{statement}
 use Rattle.listing.proofs.closing.put_task.Tie as tie
 

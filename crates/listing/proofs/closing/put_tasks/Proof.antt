@@ -8,7 +8,7 @@ use Rattle.laws.specs.Loops.{join_to}
 use Rattle.model.specs.State.{places, here}
 use Rattle.listing.specs.Text.{short_line_most}
 use Rattle.listing.specs.Listing.{task_line}
-use Rattle.bytes.specs.Writing.{Wrote}
+use Rattle.lent_bytes.specs.Writing.{Wrote}
 use Rattle.listing.proofs.InUse.{lines_none, lines_more, lines_skip, lines_done, task_line_lem, no_task_lem}
 use Rattle.listing.proofs.closing.put_tasks.Statement.{statement}
 use Rattle.listing.proofs.closing.put_tasks.Tie as tie

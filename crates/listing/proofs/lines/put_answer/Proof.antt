@@ -1,9 +1,9 @@
 -- `listing::lines::put_answer` meets its contract: after most answers' number nothing follows. Assumes nothing.
 use borrow.Author.Rules.{rules}
 use native.Mathlib.Omega.{arith}
-use Rattle.bytes.specs.Text.{bytes}
+use Rattle.lent_bytes.specs.Text.{bytes}
 use Rattle.listing.specs.Text.{spelled}
-use Rattle.bytes.proofs.Writing.{wrote_none, wrote_then, wrote_most}
+use Rattle.lent_bytes.proofs.Writing.{wrote_none, wrote_then, wrote_most}
 use Rattle.listing.proofs.lines.put_answer.Statement.{statement}
 use Rattle.listing.proofs.lines.put_answer.Tie as tie
 

@@ -1,8 +1,8 @@
 -- `listing::lines::put_field` meets its contract. Assumes nothing.
 use borrow.Author.Rules.{rules}
-use Rattle.bytes.specs.Text.{bytes}
+use Rattle.lent_bytes.specs.Text.{bytes}
 use Rattle.listing.specs.Text.{field}
-use Rattle.bytes.proofs.Writing.{wrote_then}
+use Rattle.lent_bytes.proofs.Writing.{wrote_then}
 use Rattle.listing.proofs.lines.put_field.Statement.{statement}
 use Rattle.listing.proofs.lines.put_field.Tie as tie
 

@@ -1,9 +1,9 @@
 -- `listing::lines::put_line` meets its contract. Assumes nothing.
 use borrow.Author.Rules.{rules}
 use native.Mathlib.Omega.{arith}
-use Rattle.bytes.specs.Text.{bytes}
+use Rattle.lent_bytes.specs.Text.{bytes}
 use Rattle.listing.specs.Text.{newline}
-use Rattle.bytes.proofs.Writing.{wrote_then, wrote_most}
+use Rattle.lent_bytes.proofs.Writing.{wrote_then, wrote_most}
 use Rattle.listing.proofs.lines.put_line.Statement.{statement}
 use Rattle.listing.proofs.lines.put_line.Tie as tie
 

@@ -1,6 +1,6 @@
 -- `listing::lines::put_named` meets its contract. Assumes nothing.
 use borrow.Author.Rules.{rules}
-use Rattle.bytes.proofs.Writing.{wrote_then}
+use Rattle.lent_bytes.proofs.Writing.{wrote_then}
 use Rattle.listing.proofs.lines.put_named.Statement.{statement}
 use Rattle.listing.proofs.lines.put_named.Tie as tie
 

@@ -1,6 +1,6 @@
 -- `listing::lines::put_pair` meets its contract. Assumes nothing.
 use borrow.Author.Rules.{rules}
-use Rattle.bytes.proofs.Writing.{wrote_then}
+use Rattle.lent_bytes.proofs.Writing.{wrote_then}
 use Rattle.listing.proofs.lines.put_pair.Statement.{statement}
 use Rattle.listing.proofs.lines.put_pair.Tie as tie
 

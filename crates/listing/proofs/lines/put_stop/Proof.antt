@@ -1,6 +1,6 @@
 -- `listing::lines::put_stop` meets its contract. Assumes nothing.
 use borrow.Author.Rules.{rules}
-use Rattle.bytes.specs.Text.{bytes}
+use Rattle.lent_bytes.specs.Text.{bytes}
 use Rattle.listing.specs.Listing.{stop_line}
 use Rattle.listing.proofs.lines.put_stop.Statement.{statement}
 use Rattle.listing.proofs.lines.put_stop.Tie as tie

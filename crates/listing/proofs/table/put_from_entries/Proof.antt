@@ -7,7 +7,7 @@ use lib.ListN.{length}
 use Rattle.trace.specs.declared.Read.TheVariants.{Got}
 use Rattle.listing.specs.Replay.{room}
 use Rattle.listing.specs.Computed.{text_from, running}
-use Rattle.bytes.proofs.Writing.{wrote_as}
+use Rattle.lent_bytes.proofs.Writing.{wrote_as}
 use Rattle.listing.proofs.Stages.{Begun, begun_none, begun_most, begun_unread, begun_wrong, begun_refused, begun_made, Begun-more, begun_accepted, begun_sound, begun_done}
 use Rattle.listing.proofs.table.put_from_entries.Statement.{statement}
 use Rattle.listing.proofs.table.put_from_entries.Tie as tie

@@ -5,7 +5,7 @@ use native.Mathlib.Omega.{arith}
 use Rattle.trace.specs.declared.Read.TheVariants.{Got}
 use Rattle.trace.proofs.Items.{read_moves}
 use Rattle.listing.specs.Replay.{room}
-use Rattle.bytes.proofs.Writing.{wrote_as}
+use Rattle.lent_bytes.proofs.Writing.{wrote_as}
 use Rattle.listing.proofs.Stages.{counts_unread, counts_wrong, counts_stop, counts_good, counts_text}
 use Rattle.listing.proofs.table.put_listing.Statement.{statement}
 use Rattle.listing.proofs.table.put_listing.Tie as tie

@@ -1,7 +1,7 @@
 // Little-endian numbers, read from bytes and written into them. Each function is given an offset at which the number lies whole in the slice.
 ghost use Rattle.std.specs.Prelude.{◌≡◌, ◌+◌, ◌<◌, ◌≤◌, length};
-ghost use Rattle.bytes.specs.Numbers.{two_bytes, four_bytes, one, two, four};
-ghost use Rattle.bytes.specs.Writing.{stored};
+ghost use Rattle.lent_bytes.specs.Numbers.{two_bytes, four_bytes, one, two, four};
+ghost use Rattle.lent_bytes.specs.Writing.{stored};
 
 fn wide(b: u8) -> u16
     ensures { (result ≡ b) × (result < 256) }

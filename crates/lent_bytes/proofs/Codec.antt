@@ -5,8 +5,8 @@ use mathlib.Core.List.{List, ◌++◌}
 use Prim.Native.Nat.{ℕ, ◌+◌, ◌*◌, ◌/◌, ◌%◌}
 use native.Mathlib.Omega.{arith}
 use lib.ListN.{length, length-append}
-use Rattle.bytes.specs.Numbers.{two_bytes, four_bytes, one, two, four, Bytes, Fits16, Fits32}
-use Rattle.bytes.proofs.Stands.{Stands, moved, stands_first, stands_rest, stands_both}
+use Rattle.lent_bytes.specs.Numbers.{two_bytes, four_bytes, one, two, four, Bytes, Fits16, Fits32}
+use Rattle.lent_bytes.proofs.Stands.{Stands, moved, stands_first, stands_rest, stands_both}
 
 -- `put` makes `size` bytes of a value, `get` reads it at an offset. `Fit` says which values come back, `Good` at which offsets of which bytes a value
 -- stands.

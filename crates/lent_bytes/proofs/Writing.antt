@@ -7,7 +7,7 @@ use native.Mathlib.Numerals.{add-one}
 use native.Mathlib.Omega.{arith}
 use lib.ListN.{length, get_or, take, drop, set, length-append, length-set, drop_of_length-le}
 use lib.Seq.{sets, length-sets, sets-eq, take-suc, take_all}
-use Rattle.bytes.specs.Writing.{stored, Wrote}
+use Rattle.lent_bytes.specs.Writing.{stored, Wrote}
 
 pub stored_append : (xs ys l : List ℕ) (at : ℕ) → stored l at (xs ++ ys) ≡ stored (stored l at xs) (at + length xs) ys
 unfolding stored

@@ -7,7 +7,7 @@ use native.Mathlib.Omega.{arith}
 use lib.Dec.{ltb}
 use borrow.Author.Tests.{lt-ltb}
 use Rattle.laws.specs.Tests.{if◌then◌else◌}
-use Rattle.bytes.specs.Text.{digits, digits_most, decimal}
+use Rattle.lent_bytes.specs.Text.{digits, digits_most, decimal}
 
 -- a tenth of a number has a digit less
 tenth : (k n : ℕ) → n < 10 ^ suc k → n / 10 < 10 ^ k

@@ -1,8 +1,8 @@
 // Text and decimal numbers, written from an offset on; each function answers the offset after what it wrote. Each is given a buffer that has room for the
 // longest text that it can write.
 ghost use Rattle.std.specs.Prelude.{◌+◌, ◌≤◌, length};
-ghost use Rattle.bytes.specs.Text.{digits, digits_most, decimal};
-ghost use Rattle.bytes.specs.Writing.{Wrote};
+ghost use Rattle.lent_bytes.specs.Text.{digits, digits_most, decimal};
+ghost use Rattle.lent_bytes.specs.Writing.{Wrote};
 
 // Enough for every number of 64 bits.
 const DIGITS: usize = 20;

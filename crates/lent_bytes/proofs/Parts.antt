@@ -7,8 +7,8 @@ use lib.ListN.{length, length-append}
 use Rattle.laws.specs.Loops.{join_to}
 use Rattle.laws.proofs.Fold.{turns_done}
 use Rattle.laws.proofs.Join.{join_more, join_long}
-use Rattle.bytes.specs.Writing.{stored}
-use Rattle.bytes.proofs.Writing.{stored_append, stored_length}
+use Rattle.lent_bytes.specs.Writing.{stored}
+use Rattle.lent_bytes.proofs.Writing.{stored_append, stored_length}
 
 -- what the code has written: m is l with xs, n bytes, from an offset on
 pub record Written (l : List ℕ) (at : ℕ) (xs m : List ℕ) (n : ℕ) : Type 0 where

@@ -10,7 +10,7 @@ use lib.Seq.{ext_get_or}
 use Rattle.laws.specs.Loops.{join_to}
 use Rattle.laws.proofs.Fold.{last_or_below}
 use Rattle.laws.proofs.Join.{join_long}
-use Rattle.bytes.specs.Numbers.{byte_at}
+use Rattle.lent_bytes.specs.Numbers.{byte_at}
 
 -- vs stands in bytes at an offset
 abbrev pub Stands : List ℕ → List ℕ → ℕ → Type 0

@@ -6,9 +6,9 @@ use native.Mathlib.Numerals.{sub-one}
 use native.Mathlib.Omega.{arith}
 use lib.ListN.{set}
 use borrow.Author.Tests.{lt-ltb, le-ltb}
-use Rattle.bytes.specs.Text.{digits}
-use Rattle.bytes.specs.Writing.{Wrote}
-use Rattle.bytes.proofs.Writing.{wrote_none, wrote_byte, wrote_then, wrote_most}
+use Rattle.lent_bytes.specs.Text.{digits}
+use Rattle.lent_bytes.specs.Writing.{Wrote}
+use Rattle.lent_bytes.proofs.Writing.{wrote_none, wrote_byte, wrote_then, wrote_most}
 
 pub digits_none : (l : List ℕ) (at n left : ℕ) → left ≡ 0 → Wrote left l at (digits left n) l at
 unfolding digits
