@@ -1,15 +1,12 @@
--- What is known in the `else` of a `let .. else` on an answer of three cases: it is one of the other two, by its tag. Assumes nothing.
+-- What is known in the `else` of a `let .. else` on an answer of three cases: it is one of the other two. Assumes nothing.
 use mathlib.Core.Path.{◌≡◌, refl, ◌∙◌}
-use mathlib.Core.List.{List, [], ◌∷◌}
-use mathlib.Core.Logic.{⊎_elim}
+use mathlib.Core.List.{List}
 use mathlib.Core.Option.{some}
 use Prim.Native.Nat.{ℕ}
-use native.Mathlib.Omega.{arith}
-use denote.Enum.Declared.{tag_of}
-use types.Run.{OneOf}
+use Rattle.model.specs.declared.Entry.{Entry}
+use Rattle.model.specs.declared.Event.{Event}
 use Rattle.model.specs.declared.Table.{Table}
-use Rattle.trace.specs.contracts.Read as reading
-use Rattle.trace.specs.contracts.Record as recorded
+use Rattle.trace.specs.declared.Place.{Place}
 use Rattle.trace.specs.declared.Record.{Record}
 use Rattle.trace.specs.declared.Record.TheVariants.{Counts, Reservation, Happening}
 use Rattle.trace.specs.declared.Read.{Read}
@@ -21,39 +18,39 @@ use Rattle.listing.specs.Computed.{text_from, unread_number}
 use Rattle.listing.proofs.Texts.{text_end, text_fault}
 
 -- no fault: the file's end (or a record)
-pub not_fault : (r : Read) → OneOf (0 ∷ 1 ∷ []) (tag_of reading.the_type r) → 32 ≡ unread_number r
+pub not_fault : (r : Read) → ((n : ℕ) → r ≡ Fault n → ⊥) → 32 ≡ unread_number r
 not_fault (Got r p) h = refl
 not_fault End h = refl
-not_fault (Fault n) h = ⊎_elim (λ e. absurd (omega arith)) (λ e. absurd (omega arith)) h
+not_fault (Fault n) h = absurd (h n refl)
 
 -- neither a record nor a fault
-pub neither : (r : Read) → OneOf (1 ∷ 2 ∷ []) (tag_of reading.the_type r) → OneOf (0 ∷ 1 ∷ []) (tag_of reading.the_type r) → r ≡ End
-neither (Got r p) h k = ⊎_elim (λ e. absurd (omega arith)) (λ e. absurd (omega arith)) h
+pub neither : (r : Read) → ((x : Record) (p : Place) → r ≡ Got x p → ⊥) → ((n : ℕ) → r ≡ Fault n → ⊥) → r ≡ End
+neither (Got r p) h k = absurd (h r p refl)
 neither End h k = refl
-neither (Fault n) h k = ⊎_elim (λ e. absurd (omega arith)) (λ e. absurd (omega arith)) k
+neither (Fault n) h k = absurd (k n refl)
 
 -- no record while the table is read
 pub table_unread
     : (file : List ℕ) (at : ℕ) (p : Progress) (r : Read) (n : ℕ)
     → end_text p.stage p.state at ≡ stop_line at 32
-    → read_at file at ≡ r → OneOf (1 ∷ 2 ∷ []) (tag_of reading.the_type r) → n ≡ unread_number r
+    → read_at file at ≡ r → ((x : Record) (q : Place) → r ≡ Got x q → ⊥) → n ≡ unread_number r
     → text_from file p at ≡ stop_line at n
-table_unread file at p (Got r q) n t e h u = ⊎_elim (λ e. absurd (omega arith)) (λ e. absurd (omega arith)) h
+table_unread file at p (Got r q) n t e h u = absurd (h r q refl)
 table_unread file at p End n t e h u = text_end file at p e ∙ t ∙ rw u
 table_unread file at p (Fault m) n t e h u = text_fault file at p m e ∙ rw u
 
 -- the wrong record for where it stands
-pub not_counts : (r : Record) → OneOf (1 ∷ 2 ∷ []) (tag_of recorded.the_type r) → order_refusal opening r ≡ some 32
-not_counts (Counts a b c) h = ⊎_elim (λ e. absurd (omega arith)) (λ e. absurd (omega arith)) h
+pub not_counts : (r : Record) → ((a b c : ℕ) → r ≡ Counts a b c → ⊥) → order_refusal opening r ≡ some 32
+not_counts (Counts a b c) h = absurd (h a b c refl)
 not_counts (Reservation x) h = refl
 not_counts (Happening x) h = refl
 
-pub not_entry : (tb : Table) (k : ℕ) (r : Record) → OneOf (0 ∷ 2 ∷ []) (tag_of recorded.the_type r) → order_refusal (entering tb k) r ≡ some 32
+pub not_entry : (tb : Table) (k : ℕ) (r : Record) → ((x : Entry) → r ≡ Reservation x → ⊥) → order_refusal (entering tb k) r ≡ some 32
 not_entry tb k (Counts a b c) h = refl
-not_entry tb k (Reservation x) h = ⊎_elim (λ e. absurd (omega arith)) (λ e. absurd (omega arith)) h
+not_entry tb k (Reservation x) h = absurd (h x refl)
 not_entry tb k (Happening x) h = refl
 
-pub not_event : (tb : Table) (r : Record) → OneOf (0 ∷ 1 ∷ []) (tag_of recorded.the_type r) → order_refusal (complete tb) r ≡ some 32
+pub not_event : (tb : Table) (r : Record) → ((x : Event) → r ≡ Happening x → ⊥) → order_refusal (complete tb) r ≡ some 32
 not_event tb (Counts a b c) h = refl
 not_event tb (Reservation x) h = refl
-not_event tb (Happening x) h = ⊎_elim (λ e. absurd (omega arith)) (λ e. absurd (omega arith)) h
+not_event tb (Happening x) h = absurd (h x refl)

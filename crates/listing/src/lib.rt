@@ -10,7 +10,7 @@ pub enum Replayed {
 
 pub mod buffers;
 mod closing;
-mod events;
+mod happenings;
 mod lines;
 mod table;
 pub mod whole;

@@ -115,7 +115,7 @@ fn put_from_entries(
         resources,
         entry,
     });
-    crate::events::put_from_events(file, out, place, state)
+    crate::happenings::put_from_events(file, out, place, state)
 }
 
 // From the counts on (rule 13.4): the whole listing of a file that is not too long (law `listing_read`).
