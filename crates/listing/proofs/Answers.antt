@@ -2,7 +2,7 @@
 use mathlib.Core.Path.{◌≡◌, refl, sym, ap, ◌∙◌}
 use mathlib.Core.Bool.{true, false}
 use mathlib.Core.List.{List, ◌++◌}
-use Prim.Native.Nat.{ℕ, ◌+◌, ◌-◌, ◌/◌, ◌<◌, ◌≤◌}
+use Prim.Native.Nat.{ℕ, ◌-◌, ◌/◌, ◌<◌, ◌≤◌}
 use native.Mathlib.Omega.{arith}
 use lib.Dec.{leb}
 use lib.ListN.{length, drop}
@@ -43,12 +43,12 @@ listing_read file l = rw (le-ltb _ _ l)
 -- what the contract says, in one
 abbrev pub Answered : List ℕ → List ℕ → List ℕ → Replayed → Type 0
 Answered file lent out r =
-    (r ≡ replayed file (length lent)) × ((out ≡ buffer_after file lent) × (said_replayed r ≡ said_replayed (replayed file (length lent))))
+    record { value : r ≡ replayed file (length lent); text : out ≡ buffer_after file lent; says : said_replayed r ≡ said_replayed (replayed file (length lent)) }
 
 module _ (file lent : List ℕ) where
   pub answered_short : leb (room (length file)) (length lent) ≡ false → Answered file lent lent TooShort
   unfolding replayed buffer_after
-  answered_short e = rw e (refl, (refl, refl))
+  answered_short e = rw e (record { value = refl; text = refl; says = refl })
 
   pub answered
       : {m end : ℕ} {out : List ℕ} (text : List ℕ) → leb (room (length file)) (length lent) ≡ true → text ≡ listing file → Wrote m lent 0 text out end
@@ -56,7 +56,7 @@ module _ (file lent : List ℕ) where
   unfolding replayed buffer_after
   answered text e t w =
       let n : Written _ ≡ Written (length (listing file)) = ap Written (w.ends ∙ (omega arith) ∙ ap length t) in
-      rw e (n, (w.holds ∙ rw t, ap said_replayed n))
+      rw e (record { value = n; text = w.holds ∙ rw t; says = ap said_replayed n })
 
   -- a buffer with room is never too short
   pub has_room : room (length file) ≤ length lent → replayed file (length lent) ≡ Written (length (listing file))

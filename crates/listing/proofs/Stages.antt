@@ -2,13 +2,11 @@
 -- here is the text from the table's start. Assumes nothing.
 use mathlib.Core.Path.{◌≡◌, refl, sym, ap, ◌∙◌}
 use mathlib.Core.Bool.{true}
-use mathlib.Core.List.{List, [], ◌∷◌}
+use mathlib.Core.List.{List}
 use mathlib.Core.Option.{none}
 use Prim.Native.Nat.{ℕ, ◌+◌, ◌<◌, ◌≤◌}
 use native.Mathlib.Nat.{le_antisymm}
 use native.Mathlib.Omega.{arith}
-use denote.Enum.Declared.{tag_of}
-use types.Run.{OneOf}
 use lib.Dec.{eqb}
 use lib.ListN.{length, set, replicate}
 use borrow.Author.Tests.{eq-eqb, ne_eqb}
@@ -24,8 +22,6 @@ use Rattle.model.specs.Sound.{counts_fit, sound}
 use Rattle.model.specs.Fresh.{no_entry, counts_refusal, entry_refusal, fresh_refusal, fresh_state, fresh_of}
 use Rattle.fresh.proofs.Fresh.{fresh_shaped, fresh_sound}
 use Rattle.trace.specs.declared.Place.{Place}
-use Rattle.trace.specs.contracts.Read as reading
-use Rattle.trace.specs.contracts.Record as recorded
 use Rattle.trace.specs.declared.Record.{Record}
 use Rattle.trace.specs.declared.Record.TheVariants.{Counts, Reservation}
 use Rattle.trace.specs.declared.Read.{Read}
@@ -43,12 +39,12 @@ use Rattle.listing.proofs.SoFar.{running_is}
 
 module _ (file : List ℕ) where
   pub counts_unread
-      : (x : Read) (n : ℕ) → read_at file 0 ≡ x → OneOf (1 ∷ 2 ∷ []) (tag_of reading.the_type x) → n ≡ unread_number x
+      : (x : Read) (n : ℕ) → read_at file 0 ≡ x → ((r : Record) (q : Place) → x ≡ Got r q → ⊥) → n ≡ unread_number x
       → stop_line 0 n ≡ text_from file beginning 0
   counts_unread x n g o u = sym (table_unread file 0 beginning x n refl g o u)
 
   pub counts_wrong
-      : (x : Record) (q : Place) → read_at file 0 ≡ Got x q → OneOf (1 ∷ 2 ∷ []) (tag_of recorded.the_type x) → stop_line 0 32 ≡ text_from file beginning 0
+      : (x : Record) (q : Place) → read_at file 0 ≡ Got x q → ((a b c : ℕ) → x ≡ Counts a b c → ⊥) → stop_line 0 32 ≡ text_from file beginning 0
   counts_wrong x q g o = sym (text_refused file 0 beginning q x 32 g (not_counts x o))
 
   module _ (p t r : ℕ) (q : Place) (g : read_at file 0 ≡ Got (Counts p t r) q) (a : FreshAnswer) (asked : a ≡ (fresh_of (counts_alone p t r)).answer) where
@@ -97,12 +93,12 @@ module _ {file : List ℕ} {p t r from : ℕ} where
     -- the three ways to stop there
     module _ (l : k < t) where
       pub begun_unread
-          : (x : Read) (n : ℕ) → read_at file at ≡ x → OneOf (1 ∷ 2 ∷ []) (tag_of reading.the_type x) → n ≡ unread_number x
+          : (x : Read) (n : ℕ) → read_at file at ≡ x → ((r : Record) (q : Place) → x ≡ Got r q → ⊥) → n ≡ unread_number x
           → stop_line at n ≡ text_from file (started (entering (counted_table p t r) 0)) from
       begun_unread x n g o u = sym (table_unread file at (started (entering (table_of p t r entry) k)) x n refl g o u) ∙ begun_text l
 
       pub begun_wrong
-          : (x : Record) (q : Place) → read_at file at ≡ Got x q → OneOf (0 ∷ 2 ∷ []) (tag_of recorded.the_type x)
+          : (x : Record) (q : Place) → read_at file at ≡ Got x q → ((e : Entry) → x ≡ Reservation e → ⊥)
           → stop_line at 32 ≡ text_from file (started (entering (counted_table p t r) 0)) from
       begun_wrong x q g o =
           sym (text_refused file at (started (entering (table_of p t r entry) k)) q x 32 g (not_entry (table_of p t r entry) k x o)) ∙ begun_text l
@@ -123,10 +119,10 @@ module _ {file : List ℕ} {p t r from : ℕ} where
         begun_made f =
             sym (entry_tested (table_of p t r entry) k e h.entered l) ∙ (fresh_made (table_of p (k + 1) r (set entry k e)) _ (sym asked ∙ f)).0
 
-    pub Begun-more
+    pub begun_more
         : (e : Entry) (q : Place) → k < t → read_at file at ≡ Got (Reservation e) q → entry_refusal r e ≡ none
         → Begun file p t r from (set entry k e) q.at (k + 1)
-    Begun-more e q l g a =
+    begun_more e q l g a =
         record {
           entered = entered_more (table_of p t r entry) k e h.entered l a;
           inside = (read_moves file at (Reservation e) q g).1;

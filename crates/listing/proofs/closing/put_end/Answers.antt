@@ -1,5 +1,4 @@
 -- `listing::closing::put_end` meets its contract. Assumes nothing.
-use borrow.Author.Rules.{rules}
 use Rattle.lent_bytes.specs.Text.{bytes}
 use Rattle.listing.specs.Text.{newline}
 use Rattle.listing.specs.Listing.{end_lines}

@@ -1,7 +1,4 @@
 -- `listing::closing::put_server` meets its contract: its parts one after another. Assumes nothing.
-use mathlib.Core.Path.{◌∙◌}
-use borrow.Author.Rules.{rules}
-use native.Mathlib.Omega.{arith}
 use Rattle.lent_bytes.specs.Text.{bytes}
 use Rattle.lent_bytes.proofs.Writing.{wrote_then, wrote_pair}
 use Rattle.listing.specs.Text.{newline}

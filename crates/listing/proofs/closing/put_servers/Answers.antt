@@ -1,15 +1,9 @@
 -- `listing::closing::put_servers` meets its contract. Assumes nothing.
 use mathlib.Core.Path.{sym, ◌∙◌}
-use mathlib.Core.Logic.{⊎_elim}
-use Prim.Native.Nat.{◌*◌, ◌-◌, ◌≤◌}
-use borrow.Author.Rules.{rules}
 use native.Mathlib.Omega.{arith}
-use Rattle.laws.specs.Loops.{join_to}
-use Rattle.model.specs.State.{places, here}
+use Rattle.model.specs.State.{here}
 use Rattle.listing.specs.Text.{server_line_most}
-use Rattle.listing.specs.Listing.{server_line}
-use Rattle.lent_bytes.specs.Writing.{Wrote}
-use Rattle.listing.proofs.InUse.{lines_none, lines_more, lines_skip, lines_done, server_line_lem, no_server_lem}
+use Rattle.listing.proofs.InUse.{lines_none, lines_more, lines_skip, server_line_lem, no_server_lem}
 use Rattle.listing.proofs.closing.put_servers.Goals as goal
 use Rattle.listing.proofs.closing.put_servers.Goals.{else-in_use, then-in_use}
 

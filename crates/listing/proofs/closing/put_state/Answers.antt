@@ -1,5 +1,4 @@
 -- `listing::closing::put_state` meets its contract. Assumes nothing.
-use borrow.Author.Rules.{rules}
 use Rattle.lent_bytes.specs.Text.{bytes}
 use Rattle.lent_bytes.proofs.Writing.{wrote_then}
 use Rattle.listing.proofs.closing.put_state.Goals as goal

@@ -1,5 +1,4 @@
 -- `listing::closing::put_task` meets its contract. Assumes nothing.
-use borrow.Author.Rules.{rules}
 use Rattle.lent_bytes.specs.Text.{bytes}
 use Rattle.listing.proofs.closing.put_task.Goals as goal
 

@@ -1,15 +1,9 @@
 -- `listing::closing::put_tasks` meets its contract. Assumes nothing.
 use mathlib.Core.Path.{sym, ◌∙◌}
-use mathlib.Core.Logic.{⊎_elim}
-use Prim.Native.Nat.{◌*◌, ◌-◌, ◌≤◌}
-use borrow.Author.Rules.{rules}
 use native.Mathlib.Omega.{arith}
-use Rattle.laws.specs.Loops.{join_to}
-use Rattle.model.specs.State.{places, here}
+use Rattle.model.specs.State.{here}
 use Rattle.listing.specs.Text.{short_line_most}
-use Rattle.listing.specs.Listing.{task_line}
-use Rattle.lent_bytes.specs.Writing.{Wrote}
-use Rattle.listing.proofs.InUse.{lines_none, lines_more, lines_skip, lines_done, task_line_lem, no_task_lem}
+use Rattle.listing.proofs.InUse.{lines_none, lines_more, lines_skip, task_line_lem, no_task_lem}
 use Rattle.listing.proofs.closing.put_tasks.Goals as goal
 use Rattle.listing.proofs.closing.put_tasks.Goals.{else-in_use, then-in_use}
 

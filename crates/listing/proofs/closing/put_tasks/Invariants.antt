@@ -1,15 +1,10 @@
 -- What the loop keeps. Assumes nothing.
-use mathlib.Core.Path.{sym, ◌∙◌}
-use mathlib.Core.Logic.{⊎_elim}
-use Prim.Native.Nat.{◌*◌, ◌-◌, ◌≤◌}
-use borrow.Author.Rules.{rules}
-use native.Mathlib.Omega.{arith}
+use Prim.Native.Nat.{◌*◌, ◌≤◌}
 use Rattle.laws.specs.Loops.{join_to}
-use Rattle.model.specs.State.{places, here}
+use Rattle.model.specs.State.{places}
 use Rattle.listing.specs.Text.{short_line_most}
 use Rattle.listing.specs.Listing.{task_line}
 use Rattle.lent_bytes.specs.Writing.{Wrote}
-use Rattle.listing.proofs.InUse.{lines_none, lines_more, lines_skip, lines_done, task_line_lem, no_task_lem}
 use Rattle.listing.proofs.closing.put_tasks.Given as goal
 
 abbrev pub invariant-loop-t : goal.invariant-loop-t

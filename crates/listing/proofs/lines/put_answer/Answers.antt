@@ -1,5 +1,4 @@
 -- `listing::lines::put_answer` meets its contract: after most answers' number nothing follows. Assumes nothing.
-use borrow.Author.Rules.{rules}
 use native.Mathlib.Omega.{arith}
 use Rattle.lent_bytes.specs.Text.{bytes}
 use Rattle.listing.specs.Text.{spelled}

@@ -1,5 +1,4 @@
 -- `listing::lines::put_event` meets its contract. Assumes nothing.
-use borrow.Author.Rules.{rules}
 use Rattle.lent_bytes.specs.Text.{bytes}
 use Rattle.listing.specs.Text.{newline}
 use Rattle.listing.specs.Listing.{event_line}

@@ -1,5 +1,4 @@
 -- `listing::lines::put_field` meets its contract. Assumes nothing.
-use borrow.Author.Rules.{rules}
 use Rattle.lent_bytes.specs.Text.{bytes}
 use Rattle.listing.specs.Text.{field}
 use Rattle.lent_bytes.proofs.Writing.{wrote_then}

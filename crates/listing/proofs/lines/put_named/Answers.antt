@@ -1,5 +1,4 @@
 -- `listing::lines::put_named` meets its contract. Assumes nothing.
-use borrow.Author.Rules.{rules}
 use Rattle.lent_bytes.proofs.Writing.{wrote_then}
 use Rattle.listing.proofs.lines.put_named.Goals as goal
 

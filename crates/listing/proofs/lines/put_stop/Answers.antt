@@ -1,5 +1,4 @@
 -- `listing::lines::put_stop` meets its contract. Assumes nothing.
-use borrow.Author.Rules.{rules}
 use Rattle.lent_bytes.specs.Text.{bytes}
 use Rattle.listing.specs.Listing.{stop_line}
 use Rattle.listing.proofs.lines.put_stop.Goals as goal

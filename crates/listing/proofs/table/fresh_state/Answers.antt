@@ -1,6 +1,5 @@
 -- `listing::table::fresh_state` meets its contract. Assumes nothing.
 use mathlib.Core.Path.{ap, ◌∙◌}
-use borrow.Author.Rules.{rules}
 use Rattle.listing.proofs.Tables.{fresh_state_lem}
 use Rattle.listing.proofs.table.fresh_state.Goals as goal
 
