@@ -16,26 +16,26 @@ weigh-returns-then-not-is_on-clause-is t c s shown =
 
 pub weigh-returns-then-allowance-eq0-clause-is : goal.weigh-returns-then-allowance-eq0-clause-is
 weigh-returns-then-allowance-eq0-clause-is t c s shown =
-    weigh_none s _ _ _ shown _ _ _ _ _ _ (omega arith) _ c.is_on.ensures c.if-not-is_on.false _ c.if-allowance-eq0.true
+    weigh_none s _ _ _ shown _ _ _ _ _ _ (omega arith) _ c.is_on.ensures c.if-not-is_on.false _ (omega arith)
 
 pub weigh-returns-then-meets-clause-is : goal.weigh-returns-then-meets-clause-is
 weigh-returns-then-meets-clause-is t c s shown =
     weigh_met s _ _ _ shown _ _ _ _ _ _ (omega arith) _ c.is_on.ensures c.if-not-is_on.false
-    c.requires.0.ranged.count_most _ c.meets.ensures _ c.if-allowance-eq0.false c.if-meets.true
+    c.requires.0.ranged.count_most _ c.meets.ensures _ (omega arith) c.if-meets.true
 
 pub weigh-returns-in_default-clause-is : goal.weigh-returns-in_default-clause-is
 weigh-returns-in_default-clause-is t c s shown =
     both_later _ _ _ _
     (weigh_is s _ _ _ shown _ _ _ _ _ _ c.requires.2 _ c.is_on.ensures c.if-not-is_on.false
     c.requires.0.ranged.count_most _ c.meets.ensures c.if-meets.false _ _ c.with_task-wider.ensures c.joined-joint.ensures)
-    _ _ _ (one_of _ _ c.if-allowance-eq0.false) (c.in_default.ensures.is s shown)
+    _ _ _ (one_of _ _ (omega arith)) (c.in_default.ensures.is s shown)
 
 pub weigh-returns-clause-is : goal.weigh-returns-clause-is
 weigh-returns-clause-is t c s shown =
     both_of _ _ _ _
     (weigh_is s _ _ _ shown _ _ _ _ _ _ c.requires.2 _ c.is_on.ensures c.if-not-is_on.false
     c.requires.0.ranged.count_most _ c.meets.ensures c.if-meets.false _ _ c.with_task-wider.ensures c.joined-joint.ensures)
-    _ _ _ _ _ _ (one_of _ _ c.if-allowance-eq0.false) (c.in-Of.ensures.is s shown)
+    _ _ _ _ _ _ (one_of _ _ (omega arith)) (c.in-Of.ensures.is s shown)
 
 -- `first_greatest`
 pub first_greatest-loop-i-init : goal.first_greatest-loop-i-init
