@@ -16,7 +16,6 @@ use Rattle.laws.proofs.Cases.{split}
 use Rattle.laws.proofs.All.{all_ext}
 use Rattle.laws.proofs.Reflect.{Reflects, reflects_le, reflects_lt, reflects_and, reflects_or, reflects_fails}
 use Rattle.lent_bytes.specs.Numbers.{byte_at, two_bytes, Bytes}
-use Rattle.lent_bytes.specs.Writing.{stored}
 use Rattle.lent_bytes.proofs.Writing.{stored_length}
 use Rattle.model.specs.declared.State.{State}
 use Rattle.model.specs.Fresh.{blank_server, blank_task, blank_resource}

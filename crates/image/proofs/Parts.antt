@@ -21,9 +21,6 @@ use Rattle.model.specs.declared.Phase.TheVariants.{Idle, Active, Running, Rechar
 use Rattle.model.specs.declared.Mode.TheVariants.{Suspended, Ready, Waiting}
 use Rattle.model.specs.declared.Runs.TheVariants.{Nowhere, In}
 use Rattle.model.specs.declared.Owner.TheVariants.{Nobody, By}
-use Rattle.model.specs.declared.Server.{Server}
-use Rattle.model.specs.declared.Task.{Task}
-use Rattle.model.specs.declared.Resource.{Resource}
 use Rattle.model.specs.State.{places}
 use Rattle.image.specs.declared.Tagged.{Tagged}
 use Rattle.image.specs.Encoded.{phase_tag, mode_tagged, runs_tagged, owner_tagged, tagged_bytes, entry_bytes, entries, no_task_no, task_no_bytes, server_bytes, task_bytes, resource_bytes}
@@ -139,8 +136,8 @@ none last t k e =
 
 mode_tagging : Tagging 2 mode_tagged mode_of
 mode_tagging = record {
-  home = λ e. elim e [ Suspended ↦ refl | Ready ↦ refl | Waiting r ↦ refl ];
-  known = λ e. elim e [ Suspended ↦ refl | Ready ↦ refl | Waiting r ↦ refl ];
+  home = λ e. elim e as (λ x. mode_of (mode_tagged x) ≡ x) [ Suspended ↦ refl | Ready ↦ refl | Waiting r ↦ refl ];
+  known = λ e. elim e as (λ x. tag_fits 2 (mode_tagged x) ≡ true) [ Suspended ↦ refl | Ready ↦ refl | Waiting r ↦ refl ];
   again = λ t k.
       split
       (eqb t.tag 0)
@@ -154,8 +151,8 @@ mode_tagging = record {
 
 runs_tagging : Tagging 1 runs_tagged runs_of
 runs_tagging = record {
-  home = λ e. elim e [ Nowhere ↦ refl | In s ↦ refl ];
-  known = λ e. elim e [ Nowhere ↦ refl | In s ↦ refl ];
+  home = λ e. elim e as (λ x. runs_of (runs_tagged x) ≡ x) [ Nowhere ↦ refl | In s ↦ refl ];
+  known = λ e. elim e as (λ x. tag_fits 1 (runs_tagged x) ≡ true) [ Nowhere ↦ refl | In s ↦ refl ];
   again = λ t k.
       split
       (eqb t.tag 0)
@@ -165,8 +162,8 @@ runs_tagging = record {
 
 owner_tagging : Tagging 1 owner_tagged owner_of
 owner_tagging = record {
-  home = λ e. elim e [ Nobody ↦ refl | By t ↦ refl ];
-  known = λ e. elim e [ Nobody ↦ refl | By t ↦ refl ];
+  home = λ e. elim e as (λ x. owner_of (owner_tagged x) ≡ x) [ Nobody ↦ refl | By t ↦ refl ];
+  known = λ e. elim e as (λ x. tag_fits 1 (owner_tagged x) ≡ true) [ Nobody ↦ refl | By t ↦ refl ];
   again = λ t k.
       split
       (eqb t.tag 0)
@@ -185,8 +182,8 @@ phase_codec : Codec 1 (λ p. one (phase_tag p)) (λ bytes at. phase_of (byte_at 
 unfolding one server_fits
 phase_codec = record {
   long = λ p. refl;
-  back = λ p bytes at fit h. rw h.0 (elim p [ Idle ↦ refl | Active ↦ refl | Running ↦ refl | Recharging ↦ refl ]);
-  good = λ p bytes at fit h. rw h.0 (elim p [ Idle ↦ refl | Active ↦ refl | Running ↦ refl | Recharging ↦ refl ]);
+  back = λ p bytes at fit h. rw h.0 (elim p as (λ x. phase_of (phase_tag x) ≡ x) [ Idle ↦ refl | Active ↦ refl | Running ↦ refl | Recharging ↦ refl ]);
+  good = λ p bytes at fit h. rw h.0 (elim p as (λ x. ltb (phase_tag x) 4 ≡ true) [ Idle ↦ refl | Active ↦ refl | Running ↦ refl | Recharging ↦ refl ]);
   forth = λ bytes at all k. (sym (phase_again (byte_at bytes at) k), tt);
 }
 

@@ -1,4 +1,4 @@
--- What the loop keeps. Assumes nothing.
+-- The loop keeps that the first i bytes of the text are written. Assumes nothing.
 use Prim.Native.Nat.{◌+◌, ◌-◌, ◌≤◌}
 use lib.ListN.{length, take}
 use Rattle.lent_bytes.specs.Writing.{Wrote}

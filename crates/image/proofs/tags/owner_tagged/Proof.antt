@@ -1,7 +1,0 @@
--- `image::tags::owner_tagged` meets its contract. Assumes nothing.
-use borrow.Author.Rules.{rules}
-use Rattle.image.proofs.tags.owner_tagged.Statement.{statement}
-use Rattle.image.proofs.tags.owner_tagged.Tie as tie
-
-pub owner_tagged_spec : {M : Type 1} → statement M
-owner_tagged_spec = tie.close (tie.spec (λ c. search rules) (λ c. search rules) (λ c. rw c.enum_told.given.1) (λ c. rw c.before.x.given.1))
