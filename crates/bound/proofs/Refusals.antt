@@ -1,16 +1,14 @@
 -- Verdicts: which test tells, and which pass. Assumes nothing.
-use mathlib.Core.Path.{◌≡◌, refl, ap, ap₂, ◌∙◌}
+use mathlib.Core.Path.{◌≡◌, ap, ap₂, ◌∙◌}
 use mathlib.Core.Bool.{Bool, true, false, not, ◌&&◌}
-use mathlib.Core.List.{List}
-use mathlib.Core.Option.{Option, none, some}
+use mathlib.Core.Option.{none}
 use Prim.Native.Nat.{ℕ, ◌+◌, ◌≤◌}
 use native.Mathlib.Numerals.{add-one}
-use native.Mathlib.Omega.{arith}
 use lib.Dec.{ltb, leb}
 use borrow.Author.Tests.{leb-true, eq-eqb, ne_eqb}
 use Rattle.laws.proofs.Cases.{and_right}
 use Rattle.laws.proofs.Fold.{turns_done}
-use Rattle.laws.specs.Tests.{if◌then◌else◌, accepted, ◌when◌or◌, first_of, ◌or_else◌}
+use Rattle.laws.specs.Tests.{if◌then◌else◌, accepted, ◌when◌or◌, first_of}
 use Rattle.laws.specs.Loops.{all_to, sum_to, fold_to}
 use Rattle.model.specs.Verdicts.{verdict, first_refused, refused_if}
 use Rattle.model.proofs.Refused.{verdict_or, verdict_if, one_by_one}
@@ -18,7 +16,7 @@ use Rattle.bound.specs.declared.Parent.{Parent}
 use Rattle.bound.specs.declared.Parent.TheVariants.{Inside}
 use Rattle.bound.specs.declared.Sections.{Sections}
 use Rattle.model.specs.declared.Verdict.{Verdict}
-use Rattle.model.specs.declared.Verdict.TheVariants.{Accepted, Refused}
+use Rattle.model.specs.declared.Verdict.TheVariants.{Refused}
 use Rattle.bound.specs.Table.{section_at, directly_in, counts_fit, parent_fits, section_fits, above, child_length, children_fit, section_tests, section_refusal, table_refusal, refusal}
 
 module _ (s : Sections) (i : ℕ) where

@@ -48,7 +48,7 @@ module _ (s : Sections) (rows : Rows) (spans : Spans) (count : ℕ) (drawn : Dra
           let most = spanned.end_most (on_span x q) in
           let order = spanned.in_order (on_span x q) in
           nothing_of a
-          ∙ ap (λ w. spend w a) (sym (gathered_past first_greatest _ 0 from (omega arith) (λ j z l. idle_best j _ (omega arith) (inl (omega arith)))))
+          ∙ ap (λ w. spend w a) (sym (gathered_past first_greatest (weighed_on weigh s q x) 0 from (omega arith) (λ j z l. idle_best j (gathered first_greatest (weighed_on weigh s q x) j) (omega arith) (inl (omega arith)))))
 
       pub best_to_lem
           : (i end : ℕ) → end ≡ end_in spans (on_span x q) → i ≤ end → end ≤ i

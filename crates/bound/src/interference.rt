@@ -73,7 +73,7 @@ fn blockers(
 
 // What section i weighs, if it is the task's on the resource: nothing where its outer resources meet Held, else its length and its
 // children (`Steps.weigh_is`).
-#[cycle(first_greatest_interference_sum_largest_order_ordering_value_sum_over_tried_next_weigh)]
+#[cycle(interference)]
 fn weigh(
     rows: &[[usize; 4]; SECTIONS],
     spans: &[[usize; 2]; SPANS],
@@ -115,7 +115,7 @@ fn weigh(
 }
 
 // The first of the greatest of the task's sections on the resource, by number (`Skips.best_to_lem`).
-#[cycle(first_greatest_interference_sum_largest_order_ordering_value_sum_over_tried_next_weigh)]
+#[cycle(interference)]
 fn first_greatest(
     rows: &[[usize; 4]; SECTIONS],
     spans: &[[usize; 2]; SPANS],
@@ -152,7 +152,7 @@ fn first_greatest(
 }
 
 // The tree of orders (rule 12.8) under this task, which remains and comes next (`Steps.tried_is`).
-#[cycle(first_greatest_interference_sum_largest_order_ordering_value_sum_over_tried_next_weigh)]
+#[cycle(interference)]
 fn tried_next(
     rows: &[[usize; 4]; SECTIONS],
     spans: &[[usize; 2]; SPANS],
@@ -192,7 +192,7 @@ fn tried_next(
 }
 
 // The largest sum over the orders of the remaining tasks (`Steps.order_made`).
-#[cycle(first_greatest_interference_sum_largest_order_ordering_value_sum_over_tried_next_weigh)]
+#[cycle(interference)]
 fn largest_order(
     rows: &[[usize; 4]; SECTIONS],
     spans: &[[usize; 2]; SPANS],
@@ -230,7 +230,7 @@ fn largest_order(
 }
 
 // The ordering value of a section on the resource (rule 12.5); `entry` is what Held begins as (`Steps.own_is`).
-#[cycle(first_greatest_interference_sum_largest_order_ordering_value_sum_over_tried_next_weigh)]
+#[cycle(interference)]
 fn ordering_value(
     rows: &[[usize; 4]; SECTIONS],
     spans: &[[usize; 2]; SPANS],
@@ -258,7 +258,7 @@ fn ordering_value(
 
 // What section c adds to a sum (rule 12.4), if it stands in the section of the ordinal: both parts are found with its own resource added to R
 // (`Steps.sum_is_lem`).
-#[cycle(first_greatest_interference_sum_largest_order_ordering_value_sum_over_tried_next_weigh)]
+#[cycle(interference)]
 fn sum_over(
     rows: &[[usize; 4]; SECTIONS],
     spans: &[[usize; 2]; SPANS],
@@ -297,7 +297,7 @@ fn sum_over(
 }
 
 // Rule 12.4, of the task's sections that stand directly in the section of the ordinal (`Skips.sum_to`, `Steps.sum_made`).
-#[cycle(first_greatest_interference_sum_largest_order_ordering_value_sum_over_tried_next_weigh)]
+#[cycle(interference)]
 pub(crate) fn interference_sum(
     rows: &[[usize; 4]; SECTIONS],
     spans: &[[usize; 2]; SPANS],

@@ -19,7 +19,6 @@ use Rattle.model.specs.declared.Phase.TheVariants.{Idle, Active}
 use Rattle.model.specs.declared.Mode.{Mode}
 use Rattle.model.specs.declared.Mode.TheVariants.{Suspended, Ready, Waiting}
 use Rattle.model.specs.declared.Runs.{Runs}
-use Rattle.model.specs.declared.Owner.{Owner}
 use Rattle.model.specs.declared.Owner.TheVariants.{Nobody, By}
 use Rattle.model.specs.declared.Server.{Server}
 use Rattle.model.specs.declared.Task.{Task}
@@ -39,7 +38,7 @@ use Rattle.events.specs.declared.turning.Turn.{Turn}
 use Rattle.events.specs.declared.turning.Turn.TheVariants.{Wakes, Rests}
 use Rattle.events.specs.declared.turning.Turned.{Turned}
 use Rattle.events.specs.declared.Change.{Change}
-use Rattle.events.specs.Changes.{Clear, hosts, told, change_to, change_of, phased_change}
+use Rattle.events.specs.Changes.{Clear, change_to, change_of, phased_change}
 use Rattle.events.specs.Computed.{turn_of, servers_by, turns, turned_server, turned_servers, mode_after, spent_servers, ticked_tasks}
 use Rattle.events.proofs.Clear.{clear_grounds, clear_loose, number_owned}
 

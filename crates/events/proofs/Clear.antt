@@ -12,7 +12,7 @@ use Rattle.model.specs.declared.TaskNo.{TaskNo}
 use Rattle.model.specs.declared.State.{State}
 use Rattle.model.specs.declared.Event.{Event}
 use Rattle.model.specs.declared.Event.TheVariants.{Wake, Suspend, Elapse, Lock, Unlock}
-use Rattle.model.specs.State.{server_at, task_at, resource_at, here, present, owned, owner_no}
+use Rattle.model.specs.State.{server_at, task_at, resource_at, here, owned, owner_no}
 use Rattle.model.specs.Sound.{each, sound}
 use Rattle.model.specs.Events.{first_waiter}
 use Rattle.model.specs.Step.{affords}

@@ -1,3 +1,2 @@
 pub mod Decided
 pub mod Metered
-pub mod Walk

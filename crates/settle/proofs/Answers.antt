@@ -15,8 +15,8 @@ use Rattle.settle.specs.declared.Doing.TheVariants.{Executes, Spins, NotRunning}
 use Rattle.settle.specs.Doing.{doing, said_doing}
 
 -- the query's two promises are one
-pub and_said : (d e : Doing) → d ≡ e → (d ≡ e) × (said_doing d ≡ said_doing e)
-and_said d e p = (p, ap said_doing p)
+pub and_said : (d e : Doing) → d ≡ e → record { value : d ≡ e; said : said_doing d ≡ said_doing e }
+and_said d e p = record { value = p; said = ap said_doing p }
 
 pub number_below : (count i : ℕ) → in_use count i ≡ true → i < places
 number_below count i h = ltb-true i places (and_left (ltb i places) _ h)

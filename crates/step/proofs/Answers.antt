@@ -2,7 +2,7 @@
 use mathlib.Core.Path.{◌≡◌, refl, sym, ◌∙◌, ap}
 use mathlib.Core.Bool.{Bool, true, false, ◌&&◌}
 use mathlib.Core.List.{List}
-use Prim.Native.Nat.{ℕ, ◌<◌, ◌≤◌}
+use Prim.Native.Nat.{ℕ, ◌<◌}
 use lib.Dec.{ltb, eqb}
 use lib.ListN.{length, get_or-eq_default}
 use lib.Seq.{get_or-set_same}
@@ -12,7 +12,6 @@ use Rattle.laws.proofs.Cases.{split, holds_fails, and_both}
 use Rattle.model.specs.declared.TaskNo.{TaskNo}
 use Rattle.model.specs.declared.ServerNo.{ServerNo}
 use Rattle.model.specs.declared.Phase.TheVariants.{Running}
-use Rattle.model.specs.declared.Task.{Task}
 use Rattle.model.specs.declared.State.{State}
 use Rattle.model.specs.declared.Event.{Event}
 use Rattle.model.specs.declared.Event.TheVariants.{Wake, Suspend, Dispatch, Preempt, Elapse, Recharge, Lock, Unlock}
@@ -28,7 +27,7 @@ use Rattle.events.specs.Changes.{Clear, told}
 use Rattle.chain.proofs.Arrays.{end_served, end_below}
 use Rattle.events.proofs.Clear.{clear_grounds}
 use Rattle.events.proofs.Changes.{servers_next}
-use Rattle.step.specs.Computed.{end_at, entry_at, answer_by, Within}
+use Rattle.step.specs.Computed.{end_at, answer_by, Within}
 
 -- the places that an answer looks at
 pub within : (st u : State) (e : Event) (ends : List TaskNo) → Clear st e → ends ≡ ends_of u → Within ends e

@@ -1,6 +1,5 @@
 -- `bound::draw::around` meets its contract. Assumes nothing.
 use mathlib.Core.Path.{◌∙◌}
-use borrow.Author.Rules.{rules}
 use native.Mathlib.Omega.{arith}
 use Rattle.bound.proofs.Masks.{mask_none}
 use Rattle.bound.proofs.Drawing.{around_none, around_more}

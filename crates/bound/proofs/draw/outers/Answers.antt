@@ -1,12 +1,8 @@
 -- `bound::draw::outers` meets its contract. Assumes nothing.
-use mathlib.Core.Path.{◌≡◌, refl, ap, ◌∙◌}
-use Prim.Native.Nat.{◌≤◌, ◌-◌}
-use borrow.Author.Rules.{rules}
+use mathlib.Core.Path.{refl, ap, ◌∙◌}
 use native.Mathlib.Omega.{arith}
-use lib.ListN.{length, set, replicate, length-set}
-use Rattle.laws.specs.Loops.{fold_to}
+use lib.ListN.{set, length-set}
 use Rattle.laws.proofs.Fold.{fold_none, fold_more, fold_done}
-use Rattle.bound.specs.Sets.{no_resource}
 use Rattle.bound.specs.Computed.{sets_of, outer_next, outers_in}
 use Rattle.bound.proofs.Masks.{sets_none, sets_set}
 use Rattle.bound.proofs.draw.outers.Goals as goal
@@ -18,14 +14,13 @@ loop-i-init c =
 
 pub loop-i-preserved : goal.loop-i-preserved
 unfolding outers_in outer_next
-loop-i-preserved c =
-    let at-loop = ⟨2⟩ in (
-      omega arith,
-      length-set at-loop.loop.drawn _ _ ∙ at-loop.loop.invariant.1,
-      fold_more _ _ _ _ _ at-loop.loop.invariant.2
-          (sets_set at-loop.loop.drawn at-loop.loop.i _ (omega (arith, at-loop.before.requires.count_most)) at-loop.loop.invariant.1
-          ∙ ap (λ r. set (sets_of at-loop.loop.drawn) at-loop.loop.i r) c.around-next.ensures),
-    )
+loop-i-preserved c = (
+  omega arith,
+  length-set c.loop-i.drawn _ _ ∙ c.loop-i.invariant.1,
+  fold_more _ _ _ _ _ c.loop-i.invariant.2
+      (sets_set c.loop-i.drawn c.loop-i.i _ (omega (arith, c.requires.count_most)) c.loop-i.invariant.1
+      ∙ ap (λ r. set (sets_of c.loop-i.drawn) c.loop-i.i r) c.around-next.ensures),
+)
 
 pub returns : goal.returns
 unfolding outers_in outer_next

@@ -1,10 +1,5 @@
 -- `bound::draw::rows` meets its contract. Assumes nothing.
-use mathlib.Core.Path.{◌≡◌}
-use Prim.Native.Nat.{◌≤◌, ◌-◌}
-use borrow.Author.Rules.{rules}
 use native.Mathlib.Omega.{arith}
-use lib.ListN.{replicate}
-use Rattle.laws.specs.Loops.{set_to}
 use Rattle.laws.proofs.Set.{set_none, set_more, set_done}
 use Rattle.bound.specs.Computed.{row_at, rows_of}
 use Rattle.bound.proofs.draw.rows.Goals as goal

@@ -1,12 +1,9 @@
 -- What the loop keeps. Assumes nothing.
 use mathlib.Core.Path.{◌≡◌}
-use Prim.Native.Nat.{◌≤◌, ◌-◌}
-use borrow.Author.Rules.{rules}
-use native.Mathlib.Omega.{arith}
+use Prim.Native.Nat.{◌≤◌}
 use lib.ListN.{replicate}
 use Rattle.laws.specs.Loops.{set_to}
-use Rattle.laws.proofs.Set.{set_none, set_more, set_done}
-use Rattle.bound.specs.Computed.{row_at, rows_of}
+use Rattle.bound.specs.Computed.{row_at}
 use Rattle.bound.proofs.draw.rows.Given as goal
 
 abbrev pub invariant-loop-i : goal.invariant-loop-i

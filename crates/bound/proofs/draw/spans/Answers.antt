@@ -1,8 +1,6 @@
 -- `bound::draw::spans` meets its contract. Assumes nothing.
-use Prim.Native.Nat.{◌≤◌, ◌-◌}
-use borrow.Author.Rules.{rules}
 use native.Mathlib.Omega.{arith}
-use Rattle.bound.proofs.Spans.{Begun, spans_none, spans_turn, spans_done}
+use Rattle.bound.proofs.Spans.{spans_none, spans_turn, spans_done}
 use Rattle.bound.proofs.draw.spans.Goals as goal
 
 pub loop-i-init : goal.loop-i-init
@@ -10,12 +8,11 @@ loop-i-init c =
     (omega arith, spans_none _)
 
 pub loop-i-preserved : goal.loop-i-preserved
-loop-i-preserved c =
-    let at-loop = ⟨2⟩ in (
-      omega (arith, c.loop-i-test.true),
-      spans_turn _ at-loop.loop.drawn _ at-loop.loop.i at-loop.before.requires c.loop-i-test.true at-loop.loop.invariant.1 _ _ _ _
-          c.on_span-on.ensures.0 c.widened.ensures c.in_span-inside.ensures.0 c.widened-in-loop-i.ensures,
-    )
+loop-i-preserved c = (
+  omega (arith, c.loop-i-test.true),
+  spans_turn _ c.loop-i.drawn _ c.loop-i.i c.requires c.loop-i-test.true c.loop-i.invariant.1 _ _ _ _
+      c.on_span-on.ensures.is c.widened.ensures c.in_span-inside.ensures.is c.widened-in-loop-i.ensures,
+)
 
 pub returns : goal.returns
 returns c =

@@ -1,8 +1,6 @@
 -- What the loop keeps. Assumes nothing.
-use Prim.Native.Nat.{◌≤◌, ◌-◌}
-use borrow.Author.Rules.{rules}
-use native.Mathlib.Omega.{arith}
-use Rattle.bound.proofs.Spans.{Begun, spans_none, spans_turn, spans_done}
+use Prim.Native.Nat.{◌≤◌}
+use Rattle.bound.proofs.Spans.{Begun}
 use Rattle.bound.proofs.draw.spans.Given as goal
 
 abbrev pub invariant-loop-i : goal.invariant-loop-i

@@ -1,14 +1,7 @@
 -- `bound::interference::blockers` meets its contract. Assumes nothing.
-use mathlib.Core.Path.{◌≡◌}
-use Prim.Native.Nat.{◌≤◌, ◌-◌}
 use native.Mathlib.Omega.{arith}
-use borrow.Author.Rules.{rules}
-use Rattle.laws.specs.Loops.{fold_to}
 use Rattle.laws.proofs.Fold.{fold_none, fold_more, fold_done}
-use Rattle.bound.specs.declared.Sections.{Sections}
-use Rattle.bound.specs.Sets.{no_task}
-use Rattle.bound.specs.Interference.{blocker, blockers}
-use Rattle.bound.specs.Computed.{Drawn}
+use Rattle.bound.specs.Interference.{blockers}
 use Rattle.bound.proofs.Steps.{blocker_turn}
 use Rattle.bound.proofs.interference.blockers.Goals as goal
 

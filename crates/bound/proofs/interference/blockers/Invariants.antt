@@ -1,15 +1,11 @@
 -- What the loop keeps. Assumes nothing.
 use mathlib.Core.Path.{◌≡◌}
-use Prim.Native.Nat.{◌≤◌, ◌-◌}
-use native.Mathlib.Omega.{arith}
-use borrow.Author.Rules.{rules}
+use Prim.Native.Nat.{◌≤◌}
 use Rattle.laws.specs.Loops.{fold_to}
-use Rattle.laws.proofs.Fold.{fold_none, fold_more, fold_done}
 use Rattle.bound.specs.declared.Sections.{Sections}
 use Rattle.bound.specs.Sets.{no_task}
-use Rattle.bound.specs.Interference.{blocker, blockers}
+use Rattle.bound.specs.Interference.{blocker}
 use Rattle.bound.specs.Computed.{Drawn}
-use Rattle.bound.proofs.Steps.{blocker_turn}
 use Rattle.bound.proofs.interference.blockers.Given as goal
 
 abbrev pub invariant-loop-i : goal.invariant-loop-i

@@ -1,7 +1,6 @@
 -- `bound::interference::held_after` meets its contract. Assumes nothing.
 use native.Mathlib.Omega.{arith}
-use borrow.Author.Rules.{rules}
-use Rattle.bound.proofs.Steps.{held_none, held_more}
+use Rattle.bound.proofs.Steps.{held_more}
 use Rattle.bound.proofs.interference.held_after.Goals as goal
 
 pub returns : goal.returns

@@ -1,11 +1,6 @@
 -- `bound::table::all_children_fit` meets its contract. Assumes nothing.
-use mathlib.Core.Path.{◌≡◌}
-use Prim.Native.Nat.{◌≤◌, ◌-◌}
-use borrow.Author.Rules.{rules}
 use native.Mathlib.Omega.{arith}
-use Rattle.laws.specs.Loops.{all_to}
-use Rattle.laws.proofs.All.{all_none, all_turn, all_ends}
-use Rattle.bound.specs.Table.{children_fit}
+use Rattle.laws.proofs.All.{all_none, all_turn}
 use Rattle.bound.proofs.table.all_children_fit.Goals as goal
 
 pub loop-i-init : goal.loop-i-init

@@ -1,10 +1,7 @@
 -- What the loop keeps. Assumes nothing.
 use mathlib.Core.Path.{◌≡◌}
-use Prim.Native.Nat.{◌≤◌, ◌-◌}
-use borrow.Author.Rules.{rules}
-use native.Mathlib.Omega.{arith}
+use Prim.Native.Nat.{◌≤◌}
 use Rattle.laws.specs.Loops.{all_to}
-use Rattle.laws.proofs.All.{all_none, all_turn, all_ends}
 use Rattle.bound.specs.Table.{children_fit}
 use Rattle.bound.proofs.table.all_children_fit.Given as goal
 

@@ -1,9 +1,5 @@
 -- `bound::table::children_fit` meets its contract. Assumes nothing.
-use mathlib.Core.Path.{◌≡◌}
-use Prim.Native.Nat.{◌≤◌, ◌-◌, ◌*◌}
-use borrow.Author.Rules.{rules}
 use native.Mathlib.Omega.{arith}
-use Rattle.laws.specs.Loops.{sum_to}
 use Rattle.laws.proofs.Sum.{sum_none, sum_more, sum_done}
 use Rattle.bound.specs.Table.{child_length}
 use Rattle.bound.proofs.Refusals.{children_are}
@@ -17,7 +13,7 @@ loop-c-init c =
 pub loop-c-preserved : goal.loop-c-preserved
 unfolding child_length
 loop-c-preserved c =
-    (omega arith, omega arith, sum_more _ _ _ _ c.child_length-sum.ensures.0 c.loop-c.invariant.2)
+    (omega arith, omega arith, sum_more _ _ _ _ c.child_length-sum.ensures.is c.loop-c.invariant.2)
 
 pub returns : goal.returns
 unfolding child_length

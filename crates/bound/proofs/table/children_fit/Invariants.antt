@@ -1,12 +1,8 @@
 -- What the loop keeps. Assumes nothing.
 use mathlib.Core.Path.{◌≡◌}
-use Prim.Native.Nat.{◌≤◌, ◌-◌, ◌*◌}
-use borrow.Author.Rules.{rules}
-use native.Mathlib.Omega.{arith}
+use Prim.Native.Nat.{◌≤◌, ◌*◌}
 use Rattle.laws.specs.Loops.{sum_to}
-use Rattle.laws.proofs.Sum.{sum_none, sum_more, sum_done}
 use Rattle.bound.specs.Table.{child_length}
-use Rattle.bound.proofs.Refusals.{children_are}
 use Rattle.bound.proofs.table.children_fit.Given as goal
 
 abbrev pub invariant-loop-c : goal.invariant-loop-c

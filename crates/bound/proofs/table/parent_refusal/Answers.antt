@@ -1,6 +1,5 @@
 -- `bound::table::parent_refusal` meets its contract. Assumes nothing.
 use mathlib.Core.Path.{◌∙◌}
-use borrow.Author.Rules.{rules}
 use borrow.Author.Tests.{lt-ltb, le-ltb, eq-eqb, ne_eqb}
 use Rattle.laws.specs.Tests.{first_of}
 use Rattle.bound.proofs.Refusals.{above_tells}

@@ -1,6 +1,5 @@
 -- `bound::table::refusal` meets its contract. Assumes nothing.
 use mathlib.Core.Path.{◌∙◌}
-use borrow.Author.Rules.{rules}
 use Rattle.bound.proofs.Refusals.{question_tells}
 use Rattle.bound.proofs.table.refusal.Goals as goal
 

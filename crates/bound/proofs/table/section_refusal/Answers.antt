@@ -1,7 +1,5 @@
 -- `bound::table::section_refusal` meets its contract. Assumes nothing.
 use mathlib.Core.Path.{◌∙◌}
-use borrow.Author.Rules.{rules}
-use borrow.Author.Tests.{not-true, not-false}
 use Rattle.laws.specs.Tests.{first_of}
 use Rattle.bound.proofs.Refusals.{numbers_tell, parent_tells}
 use Rattle.bound.proofs.table.section_refusal.Goals as goal

@@ -1,14 +1,10 @@
 -- What the loop keeps. Assumes nothing.
-use mathlib.Core.Path.{◌≡◌, ap}
+use mathlib.Core.Path.{◌≡◌}
 use mathlib.Core.Option.{none}
-use Prim.Native.Nat.{◌≤◌, ◌-◌}
-use borrow.Author.Rules.{rules}
-use native.Mathlib.Omega.{arith}
+use Prim.Native.Nat.{◌≤◌}
 use Rattle.laws.specs.Loops.{fold_to}
-use Rattle.laws.proofs.Fold.{fold_none}
 use Rattle.model.specs.Verdicts.{verdict}
 use Rattle.bound.specs.Table.{section_refusal}
-use Rattle.bound.proofs.Refusals.{refusal_turn, refusals_done}
 use Rattle.bound.proofs.table.sections_refusal.Given as goal
 
 abbrev pub invariant-loop-i : goal.invariant-loop-i

@@ -1,8 +1,6 @@
 -- `bound::table::table_refusal` meets its contract. Assumes nothing.
 use mathlib.Core.Path.{◌∙◌}
-use borrow.Author.Rules.{rules}
-use borrow.Author.Tests.{not-true, not-false}
-use Rattle.bound.proofs.Refusals.{counts_tell, counts_most, sections_tell}
+use Rattle.bound.proofs.Refusals.{counts_tell, sections_tell}
 use Rattle.bound.proofs.table.table_refusal.Goals as goal
 
 pub returns-then-not-s : goal.returns-then-not-s

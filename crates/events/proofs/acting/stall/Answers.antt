@@ -1,7 +1,6 @@
 -- `events::acting::stall` meets its contract. A return for each mode. Assumes nothing.
 use mathlib.Core.Path.{ap}
 use mathlib.Core.Bool.{not}
-use borrow.Author.Rules.{rules}
 use Rattle.laws.specs.Tests.{first_of}
 use Rattle.events.proofs.Refusals.{last_test}
 use Rattle.events.proofs.acting.stall.Goals as goal

@@ -1,5 +1,4 @@
 -- `events::event::changed` meets its contract. Assumes nothing.
-use borrow.Author.Rules.{rules}
 use Rattle.model.specs.declared.Event.TheVariants.{Dispatch, Preempt}
 use Rattle.events.specs.Changes.{change_of, phased_change}
 use Rattle.events.proofs.Clear.{clear_grounds}

@@ -2,14 +2,10 @@
 use mathlib.Core.Path.{ap, ◌∙◌}
 use mathlib.Core.Option.{some}
 use native.Mathlib.Omega.{arith}
-use borrow.Author.Rules.{rules}
-use borrow.Author.Tests.{eq-eqb, ne_eqb}
-use Rattle.model.specs.declared.Answer.TheVariants.{RefusedWaiting}
-use Rattle.model.specs.State.{task_at, awaited}
 use Rattle.model.proofs.Chain.{here_below}
 use Rattle.model.proofs.Stalled.{admitted, admitted_here}
 use Rattle.events.proofs.event.refusing.Goals as goal
 
 pub bounds-st-number_of : goal.bounds-st-number_of
 bounds-st-number_of c =
-    rw c.number_of.ensures (here_below c.args.t1 _ (admitted_here c.args.t1 c.args.e (admitted 62 (omega arith) c.args.t1 c.args.e (c.requires ∙ ap some c.if-n-ne62.false))))
+    rw c.number_of.ensures (here_below c.args.st _ (admitted_here c.args.st c.args.e (admitted 62 (omega arith) c.args.st c.args.e (c.requires ∙ ap some c.if-n-ne62.false))))

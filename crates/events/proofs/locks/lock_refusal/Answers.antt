@@ -1,6 +1,5 @@
 -- `events::locks::lock_refusal` meets its contract. A return for each test. Assumes nothing.
 use mathlib.Core.Path.{sym, ◌∙◌}
-use borrow.Author.Rules.{rules}
 use borrow.Author.Tests.{eq-eqb, ne_eqb}
 use Rattle.laws.specs.Tests.{first_of}
 use Rattle.model.specs.State.{declares}
@@ -11,28 +10,28 @@ use Rattle.events.proofs.locks.lock_refusal.Goals as goal
 pub returns-then-not-in_set : goal.returns-then-not-in_set
 unfolding first_of declares ends_at
 returns-then-not-in_set c =
-    rw (c.requires.0.0, c.requires.0.1, ← c.requires.1.0, ← c.requires.1.1, told_no c.in_set.ensures c.if-not-in_set.true-raw)
+    rw (c.requires.t_value.0, c.requires.t_value.1, ← c.requires.task_value.0, ← c.requires.task_value.1, told_no c.in_set.ensures c.if-not-in_set.true-raw)
 
 pub returns-in-Refused : goal.returns-in-Refused
 unfolding first_of declares ends_at
 returns-in-Refused c =
-    lock_stalled _ _ c.stall-stall.ensures _ c.in-Refused.is _ _ _ c.requires.0.0 c.requires.0.1 c.requires.1.0 (rw (← c.requires.1.0) (told_yes c.in_set.ensures c.if-not-in_set.false-raw))
+    lock_stalled _ _ c.stall-stall.ensures _ c.in-Refused.is _ _ _ c.requires.t_value.0 c.requires.t_value.1 c.requires.task_value.0 (rw (← c.requires.task_value.0) (told_yes c.in_set.ensures c.if-not-in_set.false-raw))
 
 pub returns-then-owner_no-t : goal.returns-then-owner_no-t
 unfolding first_of declares ends_at
 returns-then-owner_no-t c =
     let acts = stall_acts c.args.task _ c.stall-stall.ensures c.in_default.is in
-    rw (c.requires.0.0, c.requires.0.1, ← c.requires.1.0, ← c.requires.1.1, told_yes c.in_set.ensures c.if-not-in_set.false-raw, acts.0, acts.1, acts.2, eq-eqb _ _ (sym c.owner_no.ensures ∙ c.if-owner_no-t.true))
+    rw (c.requires.t_value.0, c.requires.t_value.1, ← c.requires.task_value.0, ← c.requires.task_value.1, told_yes c.in_set.ensures c.if-not-in_set.false-raw, acts.0, acts.1, acts.2, eq-eqb _ _ (sym c.owner_no.ensures ∙ c.if-owner_no-t.true))
 
 pub returns-in-Nobody : goal.returns-in-Nobody
 unfolding first_of declares ends_at
 returns-in-Nobody c =
     let acts = stall_acts c.args.task _ c.stall-stall.ensures c.in_default.is in
-    rw (c.requires.0.0, c.requires.0.1, ← c.requires.1.0, ← c.requires.1.1, told_yes c.in_set.ensures c.if-not-in_set.false-raw, acts.0, acts.1, acts.2, ne_eqb _ _ (λ e. c.if-owner_no-t.false (c.owner_no.ensures ∙ e)), c.in-Nobody.is)
+    rw (c.requires.t_value.0, c.requires.t_value.1, ← c.requires.task_value.0, ← c.requires.task_value.1, told_yes c.in_set.ensures c.if-not-in_set.false-raw, acts.0, acts.1, acts.2, ne_eqb _ _ (λ e. c.if-owner_no-t.false (c.owner_no.ensures ∙ e)), c.in-Nobody.is)
 
 pub returns-in-By : goal.returns-in-By
 unfolding first_of declares ends_at
 returns-in-By c =
     let acts = stall_acts c.args.task _ c.stall-stall.ensures c.in_default.is in
-    rw (c.requires.0.0, c.requires.0.1, ← c.requires.1.0, ← c.requires.1.1, told_yes c.in_set.ensures c.if-not-in_set.false-raw, acts.0, acts.1, acts.2, ne_eqb _ _ (λ e. c.if-owner_no-t.false (c.owner_no.ensures ∙ e)), c.in-By.is)
+    rw (c.requires.t_value.0, c.requires.t_value.1, ← c.requires.task_value.0, ← c.requires.task_value.1, told_yes c.in_set.ensures c.if-not-in_set.false-raw, acts.0, acts.1, acts.2, ne_eqb _ _ (λ e. c.if-owner_no-t.false (c.owner_no.ensures ∙ e)), c.in-By.is)
     (last_test 16 _ _ _ c.refused_if.ensures c.closes.ensures)

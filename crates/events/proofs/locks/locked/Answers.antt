@@ -1,5 +1,4 @@
 -- `events::locks::locked` meets its contract. Assumes nothing.
-use borrow.Author.Rules.{rules}
 use mathlib.Core.Path.{refl, sym, ◌∙◌}
 use Rattle.chain.proofs.Arrays.{end_served, end_below}
 use Rattle.events.proofs.Clear.{lock_below, lock_present, lock_room, lock_queue}

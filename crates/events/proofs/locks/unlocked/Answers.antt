@@ -1,5 +1,4 @@
 -- `events::locks::unlocked` meets its contract. Assumes nothing.
-use borrow.Author.Rules.{rules}
 use mathlib.Core.Path.{refl}
 use native.Mathlib.Omega.{arith}
 use Rattle.events.proofs.Clear.{unlock_below, unlock_present, unlock_stack, unlock_queue, heir_below, heir_room}

@@ -1,12 +1,9 @@
 -- `events::running::running_count` meets its contract. Assumes nothing.
-use mathlib.Core.Path.{◌≡◌, sym, ap, ◌∙◌}
-use mathlib.Core.Logic.{⊎_elim}
-use Prim.Native.Nat.{◌≤◌, ◌-◌, ◌+◌}
-use borrow.Author.Rules.{rules}
+use mathlib.Core.Path.{sym, ap, ◌∙◌}
+use Prim.Native.Nat.{◌+◌}
 use native.Mathlib.Omega.{arith}
-use Rattle.laws.specs.Loops.{count_to}
-use Rattle.laws.proofs.Count.{bit_le, count_none, count_more, count_same, count_done}
-use Rattle.model.specs.State.{here, running_at}
+use Rattle.laws.proofs.Count.{bit_le, count_none, count_more, count_same}
+use Rattle.model.specs.State.{here}
 use Rattle.events.proofs.Turns.{running_here, running_past}
 use Rattle.events.proofs.running.running_count.Goals as goal
 use Rattle.events.proofs.running.running_count.Goals.{else-in_use, then-in_use}

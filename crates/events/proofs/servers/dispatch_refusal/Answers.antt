@@ -1,5 +1,4 @@
 -- `events::servers::dispatch_refusal` meets its contract. A return for each test. Assumes nothing.
-use borrow.Author.Rules.{rules}
 use mathlib.Core.Path.{ap}
 use Rattle.laws.specs.Tests.{first_of}
 use lib.Dec.{leb}

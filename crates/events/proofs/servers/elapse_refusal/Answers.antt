@@ -1,6 +1,5 @@
 -- `events::servers::elapse_refusal` meets its contract. A return for each test. Assumes nothing.
 use mathlib.Core.Path.{sym, ap, ◌∙◌}
-use borrow.Author.Rules.{rules}
 use borrow.Author.Tests.{lt-ltb, le-ltb}
 use mathlib.Core.Bool.{not}
 use Rattle.laws.specs.Tests.{first_of}

@@ -1,5 +1,4 @@
 -- `events::servers::elapsed` meets its contract. Assumes nothing.
-use borrow.Author.Rules.{rules}
 use native.Mathlib.Omega.{arith}
 use Rattle.model.specs.declared.Event.TheVariants.{Elapse}
 use Rattle.events.proofs.Clear.{clear_grounds, elapse_affords}
@@ -12,11 +11,16 @@ overflow_add-clock c =
 
 pub spent_servers-spent-requires : goal.spent_servers-spent-requires
 spent_servers-spent-requires c =
-    (c.chain_ends-ends.ensures, (c.requires.is_sound, ((clear_grounds _ (Elapse _) c.requires).1, elapse_affords _ _ c.requires)))
+    record {
+      ends_value = c.chain_ends-ends.ensures;
+      st_value = c.requires.is_sound;
+      n_bound = (clear_grounds _ (Elapse _) c.requires).1;
+      n_value = elapse_affords _ _ c.requires;
+    }
 
 pub ticked_tasks-tasks-requires : goal.ticked_tasks-tasks-requires
 ticked_tasks-tasks-requires c =
-    (c.requires.is_sound, (clear_grounds _ (Elapse _) c.requires).1)
+    record { st_value = c.requires.is_sound; n_bound = (clear_grounds _ (Elapse _) c.requires).1 }
 
 pub returns : goal.returns
 returns c =

@@ -1,5 +1,4 @@
 -- `events::servers::phased` meets its contract. Assumes nothing.
-use borrow.Author.Rules.{rules}
 use Rattle.model.proofs.Chain.{here_below}
 use Rattle.chain.proofs.Arrays.{end_below}
 use Rattle.events.proofs.Changes.{phased_does}

@@ -1,5 +1,4 @@
 -- `events::servers::recharge_refusal` meets its contract. A return for each test. Assumes nothing.
-use borrow.Author.Rules.{rules}
 use mathlib.Core.Path.{refl}
 use Rattle.laws.specs.Tests.{first_of}
 use Rattle.events.proofs.Refusals.{told_no, told_yes, last_test}

@@ -1,5 +1,4 @@
 -- `events::servers::recharged` meets its contract. Assumes nothing.
-use borrow.Author.Rules.{rules}
 use Rattle.model.specs.declared.Event.TheVariants.{Recharge}
 use Rattle.model.proofs.Chain.{here_below}
 use Rattle.chain.proofs.Arrays.{end_below}

@@ -1,5 +1,4 @@
 -- `events::servers::turned` meets its contract. Assumes nothing.
-use borrow.Author.Rules.{rules}
 use Rattle.model.proofs.Chain.{here_below}
 use Rattle.events.proofs.Clear.{turn_here, turn_timely}
 use Rattle.events.proofs.Changes.{turned_does}
@@ -7,7 +6,7 @@ use Rattle.events.proofs.servers.turned.Goals as goal
 
 pub turned_servers-turned-requires : goal.turned_servers-turned-requires
 turned_servers-turned-requires c =
-    (c.chain_ends-ends.ensures, turn_timely c.args.turn _ c.requires.is_sound)
+    record { ends_value = c.chain_ends-ends.ensures; by_index = turn_timely c.args.turn _ c.requires.is_sound }
 
 pub bounds-st-i : goal.bounds-st-i
 bounds-st-i c =

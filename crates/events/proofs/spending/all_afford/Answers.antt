@@ -1,14 +1,9 @@
 -- `events::spending::all_afford` meets its contract. Assumes nothing.
-use mathlib.Core.Path.{◌≡◌, sym, ◌∙◌}
-use mathlib.Core.Logic.{⊎_elim}
-use Prim.Native.Nat.{◌≤◌, ◌-◌}
-use borrow.Author.Rules.{rules}
+use mathlib.Core.Path.{sym, ◌∙◌}
 use native.Mathlib.Omega.{arith}
-use Rattle.laws.specs.Loops.{all_to}
 use Rattle.laws.proofs.All.{all_none}
 use Rattle.model.specs.State.{here}
-use Rattle.model.specs.Sound.{if_here, each}
-use Rattle.model.specs.Step.{affords}
+use Rattle.model.specs.Sound.{each}
 use Rattle.events.proofs.Ticks.{all_turn, all_skip, all_ends, affords_here, affords_past}
 use Rattle.events.proofs.spending.all_afford.Goals as goal
 use Rattle.events.proofs.spending.all_afford.Goals.{else-in_use, then-in_use}

@@ -1,13 +1,9 @@
 -- `events::spending::ticked_tasks` meets its contract. Assumes nothing.
 use mathlib.Core.Path.{refl, sym, ◌∙◌}
-use mathlib.Core.Logic.{⊎_elim}
-use Prim.Native.Nat.{◌-◌}
-use borrow.Author.Rules.{rules}
-use native.Mathlib.Omega.{arith}
 use Rattle.laws.proofs.Cases.{if_yes, if_no}
-use Rattle.laws.proofs.Making.{Making, making_none, making_more, making_skip, making_done}
+use Rattle.laws.proofs.Making.{making_none, making_more, making_skip, making_done}
 use Rattle.model.specs.State.{here, no_task}
-use Rattle.model.specs.Events.{task_by, ticked_task}
+use Rattle.model.specs.Events.{task_by}
 use Rattle.events.specs.Computed.{ticked_tasks}
 use Rattle.events.proofs.Ticks.{ticked_here, executed_fits_lem}
 use Rattle.events.proofs.spending.ticked_tasks.Goals as goal
@@ -21,7 +17,7 @@ loop-t-init c =
 pub ticked_task-requires : goal.ticked_task-requires
 unfolding here task_by ticked_tasks
 ticked_task-requires c =
-    executed_fits_lem _ _ c.requires.0 c.requires.1 _ (sym c.in_use.ensures ∙ c.if-in_use.true)
+    executed_fits_lem _ _ c.requires.st_value c.requires.n_bound _ (sym c.in_use.ensures ∙ c.if-in_use.true)
 
 pub loop-t-preserved : goal.loop-t-preserved
 unfolding here task_by ticked_tasks

@@ -1,8 +1,6 @@
 -- `events::standing::shifted` meets its contract. Assumes nothing.
-use mathlib.Core.Path.{◌≡◌, refl}
-use Prim.Native.Nat.{◌≤◌, ◌-◌}
+use mathlib.Core.Path.{refl}
 use native.Mathlib.Omega.{arith}
-use Rattle.laws.specs.Loops.{set_to}
 use Rattle.laws.proofs.Set.{set_none, set_more, set_done}
 use Rattle.model.specs.Events.{next_in_queue}
 use Rattle.events.proofs.Changes.{shift_done}

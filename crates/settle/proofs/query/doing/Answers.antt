@@ -1,8 +1,6 @@
 -- `settle::query::doing` meets its contract. Assumes nothing.
 use mathlib.Core.Path.{sym, ◌∙◌}
-use borrow.Author.Rules.{rules}
-use borrow.Author.Tests.{not-true, not-false}
-use Rattle.settle.proofs.Answers.{and_said, doing_past, doing_off, number_below, end_below, doing_executes, doing_spins}
+use Rattle.settle.proofs.Answers.{and_said, doing_past, doing_off, end_below, doing_executes, doing_spins}
 use Rattle.settle.proofs.query.doing.Goals as goal
 
 pub returns-then-not-in_use : goal.returns-then-not-in_use

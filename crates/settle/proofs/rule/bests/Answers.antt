@@ -1,11 +1,6 @@
 -- `settle::rule::bests` meets its contract: after s servers each task has the best of those. Assumes nothing.
-use mathlib.Core.Path.{◌≡◌, refl, ◌∙◌}
-use mathlib.Core.Logic.{⊎_elim}
-use Prim.Native.Nat.{◌≤◌, ◌-◌}
-use borrow.Author.Rules.{rules}
+use mathlib.Core.Path.{refl, ◌∙◌}
 use native.Mathlib.Omega.{arith}
-use Rattle.chain.specs.Arrays.{servers_of}
-use Rattle.settle.specs.Computed.{best_by}
 use Rattle.settle.proofs.Settled.{bests_none, bests_more, bests_skip, bests_done}
 use Rattle.settle.proofs.rule.bests.Goals as goal
 use Rattle.settle.proofs.rule.bests.Goals.{else-t-lt16, then-t-lt16}
@@ -16,13 +11,12 @@ loop-s-init c =
 
 pub loop-s-preserved : goal.loop-s-preserved
 loop-s-preserved c =
-    let in-loop = ⟨2⟩ in
     elim c.if-t-lt16.branch [
       | then-t-lt16 w ↦ (
         omega arith,
-        w.xs-is ∙ bests_more _ _ _ _ _ _ in-loop.loop-test.true refl w.if-t-lt16.true w.better.ensures in-loop.before.loop.invariant.1,
+        w.xs-is ∙ bests_more _ _ _ _ _ _ c.loop-s-test.true refl w.if-t-lt16.true w.better.ensures c.loop-s.invariant.1,
       )
-      | else-t-lt16 w ↦ (omega arith, w.xs-is ∙ bests_skip _ _ _ _ w.if-t-lt16.false in-loop.before.loop.invariant.1)
+      | else-t-lt16 w ↦ (omega arith, w.xs-is ∙ bests_skip _ _ _ _ w.if-t-lt16.false c.loop-s.invariant.1)
     ]
 
 pub returns : goal.returns

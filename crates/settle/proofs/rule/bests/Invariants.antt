@@ -1,12 +1,8 @@
 -- What the loop keeps. Assumes nothing.
-use mathlib.Core.Path.{◌≡◌, refl, ◌∙◌}
-use mathlib.Core.Logic.{⊎_elim}
-use Prim.Native.Nat.{◌≤◌, ◌-◌}
-use borrow.Author.Rules.{rules}
-use native.Mathlib.Omega.{arith}
+use mathlib.Core.Path.{◌≡◌}
+use Prim.Native.Nat.{◌≤◌}
 use Rattle.chain.specs.Arrays.{servers_of}
 use Rattle.settle.specs.Computed.{best_by}
-use Rattle.settle.proofs.Settled.{bests_none, bests_more, bests_skip, bests_done}
 use Rattle.settle.proofs.rule.bests.Given as goal
 
 abbrev pub invariant-loop-s : goal.invariant-loop-s

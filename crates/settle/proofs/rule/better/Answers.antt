@@ -1,5 +1,4 @@
 -- `settle::rule::better` meets its contract. Assumes nothing.
-use borrow.Author.Rules.{rules}
 use borrow.Author.Tests.{lt-ltb, le-ltb}
 use Rattle.settle.specs.Computed.{better_by}
 use Rattle.settle.proofs.rule.better.Goals as goal

@@ -1,5 +1,4 @@
 -- `settle::rule::serves` meets its contract. Assumes nothing.
-use borrow.Author.Rules.{rules}
 use borrow.Author.Tests.{lt-ltb, le-ltb}
 use Rattle.settle.specs.Computed.{serves_by}
 use Rattle.settle.proofs.rule.serves.Goals as goal

@@ -1,10 +1,6 @@
 -- `settle::rule::settled` meets its contract: after t tasks those have the executors that rule H gives them. Assumes nothing.
-use mathlib.Core.Path.{◌≡◌, sym, ◌∙◌}
-use mathlib.Core.Logic.{⊎_elim}
-use Prim.Native.Nat.{◌≤◌, ◌-◌}
-use borrow.Author.Rules.{rules}
+use mathlib.Core.Path.{sym, ◌∙◌}
 use native.Mathlib.Omega.{arith}
-use Rattle.settle.specs.Computed.{settled_to}
 use Rattle.settle.proofs.Settled.{settled_none, settled_more, settled_skip, settled_done}
 use Rattle.settle.proofs.rule.settled.Goals as goal
 use Rattle.settle.proofs.rule.settled.Goals.{else-in_use, then-in_use}
@@ -26,14 +22,11 @@ loop-t-preserved c =
 
 pub returns : goal.returns
 returns c =
-    let at-loop = ⟨5⟩ in
-    let chosen = at-loop.before in
-    let budgets = chosen.before in
     settled_done _ _ _ _ _ _ _ _
-    budgets.before.before.before.requires
-    budgets.before.running_for_lem.ensures
-    budgets.budgets.ensures
-    chosen.bests.ensures
-    at-loop.loop.invariant.0
+    c.requires
+    c.running_for-on.ensures
+    c.budgets-left.ensures
+    c.bests-best.ensures
+    c.loop-t.invariant.0
     c.loop-t-test.false
-    at-loop.loop.invariant.1
+    c.loop-t.invariant.1

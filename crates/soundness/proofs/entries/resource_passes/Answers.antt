@@ -1,7 +1,5 @@
 -- `soundness::entries::resource_passes` meets its contract. Assumes nothing.
 use mathlib.Core.Path.{sym, ◌∙◌}
-use borrow.Author.Rules.{rules}
-use borrow.Author.Tests.{not-true, not-false}
 use Rattle.soundness.specs.Computed.{resource_passes}
 use Rattle.soundness.proofs.entries.resource_passes.Goals as goal
 

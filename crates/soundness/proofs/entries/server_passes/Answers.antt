@@ -1,7 +1,6 @@
 -- `soundness::entries::server_passes` meets its contract. Assumes nothing.
 use mathlib.Core.Path.{sym, ◌∙◌}
-use borrow.Author.Rules.{rules}
-use borrow.Author.Tests.{le-leb, lt-leb, not-true, not-false}
+use borrow.Author.Tests.{le-leb, lt-leb}
 use Rattle.soundness.specs.Computed.{server_passes}
 use Rattle.soundness.proofs.entries.server_passes.Goals as goal
 

@@ -1,11 +1,9 @@
 -- `soundness::lists::is_new` meets its contract. Assumes nothing.
-use mathlib.Core.Path.{◌≡◌, sym, ap}
-use mathlib.Core.Bool.{true, not}
-use Prim.Native.Nat.{◌≤◌, ◌-◌}
+use mathlib.Core.Path.{sym, ap}
+use mathlib.Core.Bool.{not}
 use borrow.Author.Tests.{eq-eqb, ne_eqb}
 use native.Mathlib.Omega.{arith}
-use Rattle.laws.specs.Loops.{all_to}
-use Rattle.laws.proofs.All.{all_none, all_more, all_fails, all_done}
+use Rattle.laws.proofs.All.{all_none, all_more, all_fails}
 use Rattle.soundness.specs.Computed.{other_at}
 use Rattle.soundness.proofs.lists.is_new.Goals as goal
 

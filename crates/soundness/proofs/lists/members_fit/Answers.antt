@@ -1,13 +1,7 @@
 -- `soundness::lists::members_fit` meets its contract. Assumes nothing.
-use mathlib.Core.Path.{◌≡◌, sym, ◌∙◌}
-use mathlib.Core.Bool.{true}
-use Prim.Native.Nat.{◌≤◌, ◌-◌}
-use borrow.Author.Rules.{rules}
-use borrow.Author.Tests.{not-true, not-false}
+use mathlib.Core.Path.{sym, ◌∙◌}
 use native.Mathlib.Omega.{arith}
-use Rattle.laws.specs.Loops.{all_to}
 use Rattle.laws.proofs.All.{all_none, all_more}
-use Rattle.soundness.specs.Computed.{member_at}
 use Rattle.soundness.proofs.Turns.{member_other, member_outside, member_again, member_is, members_long, members_fail, members_done}
 use Rattle.soundness.proofs.lists.members_fit.Goals as goal
 

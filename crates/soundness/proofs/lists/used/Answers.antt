@@ -1,9 +1,7 @@
 -- `soundness::lists::used` meets its contract. Assumes nothing.
-use mathlib.Core.Path.{◌≡◌, refl, ap, ◌∙◌}
-use Prim.Native.Nat.{◌+◌, ◌≤◌, ◌-◌}
-use borrow.Author.Rules.{rules}
+use mathlib.Core.Path.{refl, ap, ◌∙◌}
+use Prim.Native.Nat.{◌+◌}
 use native.Mathlib.Omega.{arith}
-use Rattle.laws.specs.Loops.{count_to}
 use Rattle.laws.proofs.Count.{bit_le, count_le, count_none, count_more, count_done}
 use Rattle.soundness.specs.Computed.{used_at, used_in}
 use Rattle.soundness.proofs.lists.used.Goals as goal

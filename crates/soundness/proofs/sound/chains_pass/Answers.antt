@@ -1,6 +1,5 @@
 -- `soundness::sound::chains_pass` meets its contract. Assumes nothing.
 use mathlib.Core.Path.{◌∙◌}
-use borrow.Author.Rules.{rules}
 use Rattle.chain.proofs.Arrays.{ends_are, runs_for_read}
 use Rattle.soundness.proofs.Turns.{seats_fail, seats_pass}
 use Rattle.soundness.proofs.sound.chains_pass.Goals as goal

@@ -1,7 +1,5 @@
 -- `soundness::sound::is_sound` meets its contract. Assumes nothing.
 use mathlib.Core.Path.{sym, ◌∙◌}
-use borrow.Author.Rules.{rules}
-use borrow.Author.Tests.{not-true, not-false}
 use Rattle.model.specs.Sound.{sizes_fit}
 use Rattle.model.proofs.Sound.{sizes_fact}
 use Rattle.chain.proofs.Arrays.{owners_read}

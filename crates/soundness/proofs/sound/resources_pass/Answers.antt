@@ -1,18 +1,14 @@
 -- `soundness::sound::resources_pass` meets its contract. Assumes nothing.
 use mathlib.Core.Path.{sym, ap, ◌∙◌}
-use mathlib.Core.Logic.{⊎_elim}
-use Prim.Native.Nat.{◌-◌}
-use borrow.Author.Rules.{rules}
-use borrow.Author.Tests.{not-true, not-false}
 use native.Mathlib.Omega.{arith}
 use Rattle.model.specs.State.{present}
 use Rattle.model.specs.Sound.{each_resource, if_present}
 use Rattle.soundness.specs.Computed.{used_in}
 use Rattle.soundness.specs.Computed.{resource_passes_at, length_at, resources_pass}
 use Rattle.soundness.proofs.Passed.{waiters}
-use Rattle.soundness.proofs.Turns.{SoFar, so_far_none, so_far_more, so_far_skip, so_far_fails, so_far_done, resource_read, resource_waiting}
+use Rattle.soundness.proofs.Turns.{so_far_none, so_far_more, so_far_skip, so_far_fails, so_far_done, resource_read, resource_waiting}
 use Rattle.soundness.proofs.sound.resources_pass.Goals as goal
-use Rattle.soundness.proofs.sound.resources_pass.Goals.{else-in_use, then-in_use}
+use Rattle.soundness.proofs.sound.resources_pass.Goals.{else-in_use, then-in_use+else-not-resource_passes}
 
 pub loop-r-init : goal.loop-r-init
 unfolding present each_resource if_present length_at resources_pass
@@ -44,8 +40,8 @@ unfolding present each_resource if_present length_at resources_pass
 loop-r-preserved c =
     let test = sym c.in_use.ensures in
     elim c.if-in_use.branch [
-      | then-in_use w ↦ let passed = sym (resource_read _ _ _ _ _ c.loop-r-test.true c.requires.0 c.requires.1 w.resource_passes.ensures) ∙ w.if-not-resource_passes.false in
-          so_far_more c.loop-r-test.true (test ∙ w.if-in_use.true) passed (resource_waiting _ _ passed) w.6 c.loop-r.invariant
+      | then-in_use+else-not-resource_passes w ↦ let passed = sym (resource_read _ _ _ _ _ c.loop-r-test.true c.requires.0 c.requires.1 w.resource_passes.ensures) ∙ w.if-not-resource_passes.false in
+          so_far_more c.loop-r-test.true (test ∙ w.if-in_use.true) passed (resource_waiting _ _ passed) w.total-is c.loop-r.invariant
       | else-in_use w ↦ so_far_skip c.loop-r-test.true (test ∙ w.if-in_use.false) w.total-is c.loop-r.invariant
     ]
 

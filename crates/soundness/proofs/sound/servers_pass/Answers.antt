@@ -1,20 +1,12 @@
 -- `soundness::sound::servers_pass` meets its contract. Assumes nothing.
-use mathlib.Core.Path.{◌≡◌, sym, ◌∙◌}
-use mathlib.Core.Bool.{true}
-use mathlib.Core.Logic.{⊎_elim}
-use Prim.Native.Nat.{◌≤◌, ◌-◌}
-use borrow.Author.Rules.{rules}
-use borrow.Author.Tests.{not-true, not-false}
+use mathlib.Core.Path.{sym, ◌∙◌}
 use native.Mathlib.Omega.{arith}
-use Rattle.laws.specs.Loops.{all_to}
 use Rattle.laws.proofs.All.{all_none}
 use Rattle.model.specs.State.{here}
-use Rattle.model.specs.Sound.{if_here}
 use Rattle.chain.proofs.Arrays.{end_below}
-use Rattle.soundness.specs.Computed.{server_passes_at}
 use Rattle.soundness.proofs.Turns.{each_fails, each_more, each_skip, each_done, server_fails, server_both}
 use Rattle.soundness.proofs.sound.servers_pass.Goals as goal
-use Rattle.soundness.proofs.sound.servers_pass.Goals.{else-in_use, then-in_use}
+use Rattle.soundness.proofs.sound.servers_pass.Goals.{else-in_use, then-in_use+else-not-server_passes+else-not-executes_passes}
 
 pub loop-i-init : goal.loop-i-init
 unfolding here
@@ -56,7 +48,7 @@ unfolding here
 loop-i-preserved c =
     let used = sym c.in_use.ensures in
     elim c.if-in_use.branch [
-      | then-in_use w ↦ (
+      | then-in_use+else-not-server_passes+else-not-executes_passes w ↦ (
         omega arith,
         each_more _ _ _
             (used ∙ w.if-in_use.true)
@@ -66,7 +58,7 @@ loop-i-preserved c =
             ∙ w.if-not-executes_passes.false)
             c.loop-i.invariant.1,
       )
-      | else-in_use w ↦ (omega arith, each_skip _ _ _ (used ∙ w.left) c.loop-i.invariant.1)
+      | else-in_use w ↦ (omega arith, each_skip _ _ _ (used ∙ w.if-in_use.false) c.loop-i.invariant.1)
     ]
 
 pub returns : goal.returns

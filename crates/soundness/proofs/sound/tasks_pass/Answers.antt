@@ -1,18 +1,14 @@
 -- `soundness::sound::tasks_pass` meets its contract. Assumes nothing.
 use mathlib.Core.Path.{sym, ap, ◌∙◌}
-use mathlib.Core.Logic.{⊎_elim}
-use Prim.Native.Nat.{◌-◌}
-use borrow.Author.Rules.{rules}
-use borrow.Author.Tests.{not-true, not-false}
 use native.Mathlib.Omega.{arith}
 use Rattle.model.specs.State.{here}
 use Rattle.model.specs.Sound.{each, if_here}
 use Rattle.soundness.specs.Computed.{used_in}
 use Rattle.soundness.specs.Computed.{task_passes_at, depth_at, tasks_pass}
 use Rattle.soundness.proofs.Passed.{depth}
-use Rattle.soundness.proofs.Turns.{SoFar, so_far_none, so_far_more, so_far_skip, so_far_fails, so_far_done, task_read, task_depth}
+use Rattle.soundness.proofs.Turns.{so_far_none, so_far_more, so_far_skip, so_far_fails, so_far_done, task_read, task_depth}
 use Rattle.soundness.proofs.sound.tasks_pass.Goals as goal
-use Rattle.soundness.proofs.sound.tasks_pass.Goals.{else-in_use, then-in_use}
+use Rattle.soundness.proofs.sound.tasks_pass.Goals.{else-in_use, then-in_use+else-not-task_passes}
 
 pub loop-t-init : goal.loop-t-init
 unfolding here each if_here depth_at tasks_pass
@@ -42,8 +38,8 @@ unfolding here each if_here depth_at tasks_pass
 loop-t-preserved c =
     let test = sym c.in_use.ensures in
     elim c.if-in_use.branch [
-      | then-in_use w ↦ let passed = sym (task_read _ _ _ _ c.requires.0 w.task_passes.ensures) ∙ w.if-not-task_passes.false in
-          so_far_more c.loop-t-test.true (test ∙ w.if-in_use.true) passed (task_depth _ _ passed) w.5 c.loop-t.invariant
+      | then-in_use+else-not-task_passes w ↦ let passed = sym (task_read _ _ _ _ c.requires.0 w.task_passes.ensures) ∙ w.if-not-task_passes.false in
+          so_far_more c.loop-t-test.true (test ∙ w.if-in_use.true) passed (task_depth _ _ passed) w.total-is c.loop-t.invariant
       | else-in_use w ↦ so_far_skip c.loop-t-test.true (test ∙ w.if-in_use.false) w.total-is c.loop-t.invariant
     ]
 
