@@ -1,5 +1,10 @@
 # Sourced by the parts of the gate, not run: what others counted is added to the caller's `passed` and `failed`.
 
+# is_current FILE: it stands, and is newer than every file and folder of the crates, what `rt` makes aside.
+is_current() {
+    [ -f "$1" ] && [ ! crates.txt -nt "$1" ] && [ -z "$(find crates -mindepth 2 -name out -prune -o -newer "$1" -print -quit)" ]
+}
+
 # cargo_tests FOLDER [WORD..]: the tests of a Rust folder, with further words for cargo. What fails is printed whole.
 cargo_tests() {
     local folder=$1 log good bad
