@@ -17,6 +17,9 @@ DECLARED = re.compile(rf'^( *)((?:(?:abbrev|pub|unfoldable|data|record) +)*)([(]
 OWN_RESULT = re.compile(r'proofs/.*(Answers|Invariants)\.antt$')
 # facts that were spelled like values, and a record that was spelled like no type
 TYPES = {'So-far': 'SoFar', 'Inv-loop': 'InvLoop'}
+# lemmas that the kit's script took for facts
+LEMMAS = {'Sums-none': 'sums_none', 'Gathered-none': 'gathered_none', 'Filled-put': 'filled_put', 'Filled-more': 'filled_more', 'Stands-parts': 'stands_parts',
+          'Begun-more': 'begun_more'}
 SETS = {'nothing': 'Nothing', 'only': 'Only'}
 SETS_HOME = 'Rattle.theory.specs.Rules'
 
@@ -74,7 +77,7 @@ wanted = {name: snake(name) for name in declared
 taken = collections.defaultdict(list)
 for name, new in wanted.items():
     taken[new].append(name)
-new_name = dict(TYPES)
+new_name = TYPES | LEMMAS
 for name, new in sorted(wanted.items()):
     meets = len(taken[new]) > 1 or any(name in there and new in there for there in words.values()) or new in declared
     if meets and not ('definition' in declared[name] and '-' not in name):
@@ -91,7 +94,7 @@ for file, there in words.items():
     for word, new in alone[file].items():
         print(f'{file.relative_to(ROOT)}: {word} is now {new}')
 for name, new in sorted(new_name.items()):
-    if new != snake(name):
+    if new != snake(name) and name not in LEMMAS:
         print(f'{name} is now {new}')
 new_name['orElse'], new_name['◌orElse◌'] = 'or_else', '◌or_else◌'
 

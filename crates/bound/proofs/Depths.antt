@@ -13,7 +13,7 @@ use Rattle.bound.specs.Sets.{Resources, with}
 use Rattle.bound.specs.Table.{section_at, directly_in}
 use Rattle.bound.specs.Interference.{Weighed, nothing, is_in, sum_over, sums}
 use Rattle.bound.proofs.Accepted.{Accepted}
-use Rattle.bound.proofs.Gathered.{gathered_same, Gathered-none, enough}
+use Rattle.bound.proofs.Gathered.{gathered_same, gathered_none, enough}
 
 -- how many sections may stand in p, one in another: those after it
 abbrev pub nesting : Sections → Parent → ℕ
@@ -45,14 +45,14 @@ module _ (s : Sections) (t : ℕ) where
       (λ e. rw e)
 
   -- no ordering value is anything
-  pub Sums-none
+  pub sums_none
       : (ordered : ℕ → Resources → Weighed) (depth : ℕ) (p : Parent) (r : Resources)
       → ((q : ℕ) (wider : Resources) → ordered q wider ≡ nothing) → sums depth ordered s t p r ≡ nothing
   unfolding sums sum_over
-  Sums-none ordered zero p r e = refl
-  Sums-none ordered (suc depth) p r e =
-      Gathered-none _ _ s.count (λ c. refl)
-      (λ c l. split (is_in s t p c) (λ y. rw (y, e _ _, Sums-none ordered depth (Inside c) _ e)) (λ n. rw n))
+  sums_none ordered zero p r e = refl
+  sums_none ordered (suc depth) p r e =
+      gathered_none _ _ s.count (λ c. refl)
+      (λ c l. split (is_in s t p c) (λ y. rw (y, e _ _, sums_none ordered depth (Inside c) _ e)) (λ n. rw n))
 
   module _ (good : Accepted s) (ordered : ℕ → Resources → Weighed) where
     -- nothing is left to nest
@@ -68,7 +68,7 @@ module _ (s : Sections) (t : ℕ) where
 
     depth_step : (depth : ℕ) (p : Parent) (r : Resources) → nesting s p ≤ depth → sums depth ordered s t p r ≡ sums (suc depth) ordered s t p r
     unfolding sums
-    depth_step zero p r h = sym (Gathered-none _ _ s.count (λ c. refl) (λ c l. childless (sums 0 ordered s t) p r c l (omega arith)))
+    depth_step zero p r h = sym (gathered_none _ _ s.count (λ c. refl) (λ c l. childless (sums 0 ordered s t) p r c l (omega arith)))
     depth_step (suc depth) p r h =
         gathered_same _ _ _ s.count
         (λ c l.

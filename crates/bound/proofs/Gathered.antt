@@ -27,11 +27,11 @@ module _ (join : ℕ → Weighed → Weighed → Weighed) where
         (eq-or-lt_of_le l)
 
     -- turns that give nothing
-    pub Gathered-none
+    pub gathered_none
         : (n : ℕ) → ((j : ℕ) → join j nothing nothing ≡ nothing) → ((j : ℕ) → j < n → give j ≡ nothing) → gathered join give n ≡ nothing
     unfolding gathered
-    Gathered-none zero stays e = refl
-    Gathered-none (suc n) stays e = ap₂ (join n) (Gathered-none n stays (λ j l. e j (omega arith))) (e n (omega arith)) ∙ stays n
+    gathered_none zero stays e = refl
+    gathered_none (suc n) stays e = ap₂ (join n) (gathered_none n stays (λ j l. e j (omega arith))) (e n (omega arith)) ∙ stays n
 
 -- where one more changes nothing from n on, n is enough
 pub enough {ℓ} : {A : Type ℓ} (f : ℕ → A) (n : ℕ) → ((k : ℕ) → n ≤ k → f k ≡ f (suc k)) → (k : ℕ) → n ≤ k → f k ≡ f n

@@ -22,7 +22,7 @@ use Rattle.bound.specs.Interference.{Calculation, weighing_if, weighing, blocker
 use Rattle.bound.proofs.Accepted.{Accepted}
 use Rattle.bound.proofs.Gathered.{enough}
 use Rattle.bound.proofs.Orders.{remain, order_none, order_same, order_more}
-use Rattle.bound.proofs.Depths.{Sums-none}
+use Rattle.bound.proofs.Depths.{sums_none}
 
 unfoldable pub is_outside : Sections → Tasks → ℕ → Bool
 is_outside s b x = ltb x s.tasks && not (has b x)
@@ -100,7 +100,7 @@ module _ (s : Sections) (good : Accepted s) where
       → level left 12 s b t p r ≡ level (suc left) 12 s b t p r
   unfolding level ordering
   level_step zero b t p r six h =
-      sym (Sums-none s t _ 12 p r (λ q entry. order_none s q b _ 1 (blockers s q b) entry (omega (arith, blockers_most q b))))
+      sym (sums_none s t _ 12 p r (λ q entry. order_none s q b _ 1 (blockers s q b) entry (omega (arith, blockers_most q b))))
   level_step (suc left) b t p r six h =
       ap (λ ordered. sums 12 ordered s t p r)
       (fun_ext (λ q. fun_ext (λ entry.

@@ -17,7 +17,7 @@ use Rattle.bound.specs.declared.Sections.{Sections}
 use Rattle.bound.specs.Sets.{Tasks, Resources, has, without}
 use Rattle.bound.specs.Table.{section_at}
 use Rattle.bound.specs.Interference.{Weighed, Weighing, nothing, weighed_on, first_greatest, best, held_after, tried_next, order}
-use Rattle.bound.proofs.Gathered.{gathered_same, Gathered-none, enough}
+use Rattle.bound.proofs.Gathered.{gathered_same, gathered_none, enough}
 
 -- how many tasks remain
 abbrev pub remain : Tasks → ℕ
@@ -64,7 +64,7 @@ module _ (s : Sections) (q : ℕ) (b : Tasks) where
       → remain remaining ≡ 0 → order left weigh s q b remaining held ≡ nothing
   unfolding order tried_next
   order_none weigh zero remaining held e = refl
-  order_none weigh (suc left) remaining held e = Gathered-none _ _ 6 (λ x. refl) (λ x l. rw (zero_count 6 x (has remaining) e l))
+  order_none weigh (suc left) remaining held e = gathered_none _ _ 6 (λ x. refl) (λ x l. rw (zero_count 6 x (has remaining) e l))
 
   -- the remaining tasks' sections weigh the same
   pub order_same

@@ -14,7 +14,7 @@ use Rattle.laws.proofs.Cases.{split, and_left, and_right, and_both}
 use Rattle.laws.proofs.Join.{join_long}
 use Rattle.laws.proofs.Set.{set_at_lem, set_same, length_set_to}
 use Rattle.lent_bytes.specs.Numbers.{byte_at, one, two, Bytes, Fits16}
-use Rattle.lent_bytes.proofs.Stands.{Stands, stands_part, Stands-parts}
+use Rattle.lent_bytes.proofs.Stands.{Stands, stands_part, stands_parts}
 use Rattle.lent_bytes.proofs.Codec.{Codec, ◌then◌, recoded, Any, two_codec, four_codec}
 use Rattle.model.specs.declared.TaskNo.{TaskNo}
 use Rattle.model.specs.declared.Phase.TheVariants.{Idle, Active, Running, Recharging}
@@ -58,7 +58,7 @@ module _
         → Stands (entries put none n (entries_in get size blank n bytes at)) bytes at
     unfolding entries entry_bytes entries_in entry_in
     entries_forth bytes at most all g =
-        Stands-parts (entry_bytes put none (entries_in get size blank n bytes at)) size (λ j. a.long _) n bytes at
+        stands_parts (entry_bytes put none (entries_in get size blank n bytes at)) size (λ j. a.long _) n bytes at
         (λ i l.
         subst (λ x. Stands (put x) bytes (at + size * i))
         (sym (set_at_lem n i (entry_in get size bytes at) (replicate places blank) none l (rw length-replicate (omega arith))))

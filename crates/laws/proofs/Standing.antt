@@ -49,10 +49,10 @@ module _ (top : ℕ) where
   times n entry v = count_to (suc top) (at n entry v)
 
   -- one place more
-  pub Filled-put
+  pub filled_put
       : (p : ℕ → Bool) (n m : ℕ) (old new : ℕ → ℕ) → n < suc top → m ≡ n + 1 → ((j : ℕ) → j < n → new j ≡ old j)
       → Filled p n old → p (new n) ≡ true → Filled p m new
-  Filled-put p n m old new l e same f h = (
+  filled_put p n m old new l e same f h = (
     omega arith,
     λ j k d.
         split (eqb j n) (λ y. rw (eqb-true j n y) h) (λ x. let b : j < n = omega (arith, eqb-false j n x) in ap p (same j b) ∙ f.1 j k b),

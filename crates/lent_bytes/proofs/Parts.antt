@@ -36,10 +36,10 @@ pub filled_none : (n : ℕ) (f : ℕ → List ℕ) (l : List ℕ) (at : ℕ) →
 unfolding stored join_to
 filled_none n f l at = record { turns = omega arith; same = refl; done = refl }
 
-pub Filled-more
+pub filled_more
     : {n : ℕ} {f : ℕ → List ℕ} {l m : List ℕ} {at i : ℕ} (size : ℕ) → ((j : ℕ) → length (f j) ≡ size)
     → Filled n f l at m i → i < n → (k : List ℕ) → k ≡ stored m (at + size * i) (f i) → Filled n f l at k (i + 1)
-Filled-more {n} {f} {l} {m} {at} {i} size long w lt k e = record {
+filled_more {n} {f} {l} {m} {at} {i} size long w lt k e = record {
   turns = omega arith;
   same = ap length e ∙ stored_length m (at + size * i) (f i) ∙ w.same;
   done =

@@ -46,13 +46,13 @@ module _ (f : ℕ → List ℕ) (size : ℕ) (long : (i : ℕ) → length (f i) 
       (λ (e : i < n). stands_part n i bytes at e (stands_first (join_to n f) (f n) bytes at h))
       (last_or_below i n l)
 
-  pub Stands-parts
+  pub stands_parts
       : (n : ℕ) (bytes : List ℕ) (at : ℕ) → ((i : ℕ) → i < n → Stands (f i) bytes (at + size * i)) → Stands (join_to n f) bytes at
   unfolding join_to
-  Stands-parts zero bytes at h = tt
-  Stands-parts (suc n) bytes at h =
+  stands_parts zero bytes at h = tt
+  stands_parts (suc n) bytes at h =
       stands_both (join_to n f) (f n) bytes at
-      (Stands-parts n bytes at (λ i l. h i (omega arith)))
+      (stands_parts n bytes at (λ i l. h i (omega arith)))
       (moved (f n) bytes (at + size * n) (at + length (join_to n f)) (omega (arith, join_long f size long n)) (h n (omega arith)))
 
 -- what stands at the start and is as long is the whole

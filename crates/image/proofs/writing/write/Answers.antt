@@ -6,7 +6,7 @@ use Rattle.image.specs.Encoded.{entries, entry_bytes, header_bytes}
 use Rattle.image.proofs.Parts.{server_codec, task_codec, resource_codec}
 use Rattle.image.proofs.Image.{write_whole}
 use Rattle.lent_bytes.proofs.Codec.{two_long, four_long}
-use Rattle.lent_bytes.proofs.Parts.{first, next, filled_none, Filled-more, filled_done}
+use Rattle.lent_bytes.proofs.Parts.{first, next, filled_none, filled_more, filled_done}
 use Rattle.image.proofs.writing.write.Goals as goal
 
 pub loop-i-init : goal.loop-i-init
@@ -16,7 +16,7 @@ pub loop-i-preserved : goal.loop-i-preserved
 unfolding entry_bytes
 loop-i-preserved c =
     let inv = c.loop-i.invariant in
-    (inv.0, inv.1, Filled-more 29 (λ j. server_codec.long _) inv.2 c.loop-i-test.true _ c.put_server.ensures)
+    (inv.0, inv.1, filled_more 29 (λ j. server_codec.long _) inv.2 c.loop-i-test.true _ c.put_server.ensures)
 
 pub loop-i-2-init : goal.loop-i-2-init
 loop-i-2-init c =
@@ -27,7 +27,7 @@ pub loop-i-2-preserved : goal.loop-i-2-preserved
 unfolding entry_bytes
 loop-i-2-preserved c =
     let inv = c.loop-i-2.invariant in
-    (inv.0, inv.1, Filled-more 46 (λ j. task_codec.long _) inv.2 c.loop-i-2-test.true _ c.put_task.ensures)
+    (inv.0, inv.1, filled_more 46 (λ j. task_codec.long _) inv.2 c.loop-i-2-test.true _ c.put_task.ensures)
 
 pub loop-i-3-init : goal.loop-i-3-init
 loop-i-3-init c =
@@ -38,7 +38,7 @@ pub loop-i-3-preserved : goal.loop-i-3-preserved
 unfolding entry_bytes
 loop-i-3-preserved c =
     let inv = c.loop-i-3.invariant in
-    (inv.0, inv.1, Filled-more 37 (λ j. resource_codec.long _) inv.2 c.loop-i-3-test.true _ c.put_resource.ensures)
+    (inv.0, inv.1, filled_more 37 (λ j. resource_codec.long _) inv.2 c.loop-i-3-test.true _ c.put_resource.ensures)
 
 pub returns-clause-image : goal.returns-clause-image
 unfolding header_bytes entries

@@ -2,7 +2,7 @@
 use Prim.Native.Nat.{◌-◌}
 use native.Mathlib.Omega.{arith}
 use borrow.Author.Rules.{rules}
-use Rattle.bytes.proofs.Parts.{Filled, filled_none, Filled-more, filled_done}
+use Rattle.bytes.proofs.Parts.{Filled, filled_none, filled_more, filled_done}
 use Rattle.vesztamor.specs.Metering.{server_row_bytes, metered_bytes}
 use Rattle.vesztamor.proofs.Rows.{server_row_long, row_stored}
 use Rattle.vesztamor.proofs.metering.put_rows.Statement.{statement}
@@ -21,6 +21,6 @@ put_rows_spec =
     let put = c.before.before in
     let row = put.before.before in
     let turn = row.before in
-    Filled-more 17 (server_row_long _) turn.before.loop.invariant turn.loop-test.true _ (row_stored _ _ _ _ _ row.row_of.ensures put.put-row.ensures))
+    filled_more 17 (server_row_long _) turn.before.loop.invariant turn.loop-test.true _ (row_stored _ _ _ _ _ row.row_of.ensures put.put-row.ensures))
     (λ c. c.before.loop.invariant.same)
     (λ c. filled_done c.before.loop.invariant c.loop-test.false))
