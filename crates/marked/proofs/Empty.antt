@@ -11,7 +11,7 @@ use lib.ListN.{get_or, drop}
 use borrow.Author.Tests.{ltb-true, ltb-false}
 use Rattle.laws.specs.Tests.{if◌then◌else◌}
 use Rattle.laws.proofs.Cases.{split, none_some}
-use Rattle.bytes.specs.Text.{bytes, digits, decimal}
+use Rattle.lent_bytes.specs.Text.{bytes, digits, decimal}
 use Rattle.model.specs.declared.State.{State}
 use Rattle.model.specs.declared.Phase.{Phase}
 use Rattle.model.specs.declared.Phase.TheVariants.{Idle, Active}

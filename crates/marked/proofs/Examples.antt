@@ -23,8 +23,8 @@ use Rattle.bound.specs.Sets as sets
 use Rattle.bound.specs.Table as sections
 use Rattle.bound.specs.Interference as interference
 use Rattle.bound.specs.Answer as bounded
-use Rattle.bytes.specs.Numbers.{two_bytes, four_bytes, two, four}
-use Rattle.bytes.specs.Text.{bytes, digits, decimal}
+use Rattle.lent_bytes.specs.Numbers.{two_bytes, four_bytes, two, four}
+use Rattle.lent_bytes.specs.Text.{bytes, digits, decimal}
 use Rattle.trace.specs.Reading.{body_length, entry_in, record_in, read_fault, read_at, items_from, items_at, items}
 use Rattle.listing.specs.Text.{field, newline, spelled, phase_word}
 use Rattle.listing.specs.Listing.{event_line, stop_line, server_line, task_line, end_lines, items_text, listing}

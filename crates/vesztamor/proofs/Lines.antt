@@ -7,7 +7,7 @@ use lib.Dec.{leb}
 use lib.ListN.{length}
 use borrow.Author.Tests.{leb-true, eqb-true, lt-ltb, le-ltb}
 use Rattle.laws.proofs.Cases.{and_left, and_right}
-use Rattle.bytes.specs.Numbers.{two_bytes}
+use Rattle.lent_bytes.specs.Numbers.{two_bytes}
 use Rattle.vesztamor.specs.Tables.{is_sized, row_in}
 
 module _ (header size : ℕ) (bytes : List ℕ) where

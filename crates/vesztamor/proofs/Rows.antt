@@ -13,10 +13,10 @@ use borrow.Author.Tests.{eq-eqb, ne_eqb}
 use Rattle.laws.specs.Loops.{join_to}
 use Rattle.laws.proofs.Cases.{split}
 use Rattle.laws.proofs.Join.{join_long}
-use Rattle.bytes.specs.Numbers.{byte_at, one, two, four}
-use Rattle.bytes.specs.Writing.{stored}
-use Rattle.bytes.proofs.Stands.{Stands, moved, stands_first, stands_part, stands_self}
-use Rattle.bytes.proofs.Writing.{stored_first}
+use Rattle.lent_bytes.specs.Numbers.{byte_at, one, two, four}
+use Rattle.lent_bytes.specs.Writing.{stored}
+use Rattle.lent_bytes.proofs.Stands.{Stands, moved, stands_first, stands_part, stands_self}
+use Rattle.lent_bytes.proofs.Writing.{stored_first}
 use Rattle.model.specs.declared.Answer.{Answer}
 use Rattle.model.specs.declared.Row.{Row}
 use Rattle.model.specs.declared.State.{State}

@@ -15,8 +15,8 @@ use Rattle.model.specs.declared.Answer.TheVariants.{Ok, Executes, Spins, Granted
 use Rattle.model.specs.Said.{Word, ok, executes, spins, granted, waits, passed, freed, refused, Saying, said}
 use Rattle.trace.specs.Order.{file_limit}
 use Rattle.listing.specs.Replay.{room, replayed, said_replayed}
-use Rattle.bytes.specs.Numbers.{Fits16}
-use Rattle.bytes.specs.Text.{bytes, digits, decimal}
+use Rattle.lent_bytes.specs.Numbers.{Fits16}
+use Rattle.lent_bytes.specs.Text.{bytes, digits, decimal}
 use Rattle.listing.specs.Text.{field, newline}
 use Rattle.listing.specs.Listing.{stop_line, listing}
 use Rattle.listing.proofs.Lengths.{listing_fits}

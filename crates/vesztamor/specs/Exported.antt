@@ -2,7 +2,7 @@
 use Rattle.std.specs.Prelude.{Bool, false, List, ◌++◌, ℕ, ◌/◌, ◌%◌, ◌^◌, eqb, length, replicate}
 use Rattle.std.proofs.Math.Option.{Option, none, some}
 use Rattle.laws.specs.Tests.{if◌then◌else◌}
-use Rattle.bytes.specs.Numbers.{four}
+use Rattle.lent_bytes.specs.Numbers.{four}
 use Rattle.model.specs.declared.Event.{Event}
 use Rattle.model.specs.declared.FreshAnswer.{FreshAnswer}
 use Rattle.model.specs.declared.FreshAnswer.TheVariants as fresh

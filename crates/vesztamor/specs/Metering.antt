@@ -3,8 +3,8 @@ use Rattle.std.specs.Prelude.{List, ◌++◌, ℕ, ◌/◌, ◌%◌, eqb, length
 use Rattle.std.proofs.Math.Option.{Option, none, some}
 use Rattle.laws.specs.Tests.{if◌then◌else◌}
 use Rattle.laws.specs.Loops.{join_to}
-use Rattle.bytes.specs.Numbers.{one, four}
-use Rattle.bytes.specs.Writing.{stored}
+use Rattle.lent_bytes.specs.Numbers.{one, four}
+use Rattle.lent_bytes.specs.Writing.{stored}
 use Rattle.model.specs.declared.Row.{Row}
 use Rattle.model.specs.declared.State.{State}
 use Rattle.model.specs.Said.{ok}

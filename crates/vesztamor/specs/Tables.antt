@@ -2,7 +2,7 @@
 use Rattle.std.specs.Prelude.{Bool, ◌&&◌, List, ℕ, ◌+◌, ◌*◌, ltb, leb, eqb, length, replicate}
 use Rattle.laws.specs.Tests.{if◌then◌else◌}
 use Rattle.laws.specs.Loops.{set_to}
-use Rattle.bytes.specs.Numbers.{byte_at, two_bytes, four_bytes}
+use Rattle.lent_bytes.specs.Numbers.{byte_at, two_bytes, four_bytes}
 use Rattle.model.specs.declared.Entry.{Entry}
 use Rattle.model.specs.declared.Table.{Table}
 use Rattle.model.specs.State.{places}

@@ -6,7 +6,7 @@ ghost use Rattle.vesztamor.specs.Exported.{bound_size, bound_bytes, bound_export
 use crate::answers::refusal;
 use crate::sections::{is_sections, sections_in};
 use bound::Bounded;
-use bytes::numbers::put_four;
+use lent_bytes::numbers::put_four;
 use model::TaskNo;
 
 const BOUND_SIZE: usize = 12;

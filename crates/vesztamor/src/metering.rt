@@ -1,13 +1,13 @@
 // The exported meter rows (rule 9). `vesztamor_meter` takes any bytes; the functions that write are given room for what they write.
 ghost use Rattle.std.specs.Prelude.{◌≡◌, ◌+◌, ◌*◌, ◌≤◌, length};
-ghost use Rattle.bytes.specs.Writing.{stored};
+ghost use Rattle.lent_bytes.specs.Writing.{stored};
 ghost use Rattle.image.specs.Encoded.{phase_tag};
 ghost use Rattle.vesztamor.specs.Packed.{packed};
 ghost use Rattle.vesztamor.specs.Metering.{meter_row_size, row_bytes, metered_bytes, meter_export};
 
 use crate::answers::{refusal, step_answer};
-use bytes::numbers::{put_four, put_one};
 use image::ImageAnswer;
+use lent_bytes::numbers::{put_four, put_one};
 use meter::answer::{decided, rows_written};
 use meter::row::row_of;
 use model::{Phase, Row, ServerNo, State};

@@ -4,7 +4,7 @@ ghost use Rattle.bound.specs.Table.{no_section};
 ghost use Rattle.vesztamor.specs.Tables.{is_sections, parent_of, section_in, section_of, sections_in};
 
 use bound::{Parent, Section, Sections};
-use bytes::numbers::{four_bytes, two_bytes};
+use lent_bytes::numbers::{four_bytes, two_bytes};
 use model::TaskNo;
 
 pub fn is_sections(bytes: &[u8]) -> bool

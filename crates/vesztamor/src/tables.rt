@@ -3,7 +3,7 @@ ghost use Rattle.std.specs.Prelude.{◌≡◌, true};
 ghost use Rattle.model.specs.Fresh.{no_entry};
 ghost use Rattle.vesztamor.specs.Tables.{is_table, line_in, table_in};
 
-use bytes::numbers::two_bytes;
+use lent_bytes::numbers::two_bytes;
 use model::{Entry, Table};
 use trace::lines::entry_in;
 
