@@ -25,7 +25,7 @@ use Rattle.model.specs.Meter.{row_of, meter_refusal}
 use Rattle.image.specs.Decoded.{decoded}
 use Rattle.meter.specs.Decided.{decided_by, decided_on, written}
 use Rattle.meter.proofs.Decided.{accepted_counted, accepted_enough, written_fits}
-use Rattle.vesztamor.specs.Exported.{Exported, refusal}
+use Rattle.vesztamor.specs.Exported.{refusal}
 use Rattle.vesztamor.specs.Metering.{meter_row_size, row_bytes, server_row_bytes, metered_bytes, meter_left, meter_of, meter_export}
 use Rattle.vesztamor.proofs.Keeps.{Keeps}
 

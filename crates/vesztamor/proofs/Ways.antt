@@ -34,8 +34,8 @@ use Rattle.vesztamor.specs.Exported.{Exported, refusal, zeros, fresh_export, is_
 -- the two clauses of a contract, from what is exported
 pub both
     : (x : Exported) (said : Saying) (left : List ℕ) (r : ℕ) (exit : List ℕ)
-    → x ≡ record { answer = said; bytes = left } → r ≡ packed said → exit ≡ left → (r ≡ packed x.answer) × (exit ≡ x.bytes)
-both x said left r exit e a b = (a ∙ ap (λ y. packed y.answer) (sym e), b ∙ ap (λ y. y.bytes) (sym e))
+    → x ≡ record { answer = said; bytes = left } → r ≡ packed said → exit ≡ left → record { answer : r ≡ packed x.answer; bytes : exit ≡ x.bytes }
+both x said left r exit e a b = record { answer = a ∙ ap (λ y. packed y.answer) (sym e); bytes = b ∙ ap (λ y. y.bytes) (sym e) }
 
 -- memory as long as a state takes the state
 pub written_whole : (st : State) (bytes : List ℕ) → length bytes ≡ image_size → written st bytes ≡ encoded st bytes

@@ -1,6 +1,5 @@
 -- `vesztamor::bounds::put_bound` meets its contract. Assumes nothing.
 use mathlib.Core.Path.{refl, sym, ◌∙◌}
-use borrow.Author.Rules.{rules}
 use Rattle.lent_bytes.proofs.Writing.{stored_whole}
 use Rattle.lent_bytes.proofs.Codec.{four_long}
 use Rattle.lent_bytes.proofs.Parts.{first, next}

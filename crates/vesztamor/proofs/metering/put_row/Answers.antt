@@ -1,6 +1,5 @@
 -- `vesztamor::metering::put_row` meets its contract. Assumes nothing.
 use mathlib.Core.Path.{refl}
-use borrow.Author.Rules.{rules}
 use Rattle.lent_bytes.proofs.Codec.{one_long, four_long}
 use Rattle.lent_bytes.proofs.Parts.{first, next}
 use Rattle.vesztamor.specs.Metering.{row_bytes}

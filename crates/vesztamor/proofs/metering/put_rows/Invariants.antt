@@ -1,10 +1,7 @@
 -- What the loop keeps. Assumes nothing.
 use Prim.Native.Nat.{◌-◌}
-use native.Mathlib.Omega.{arith}
-use borrow.Author.Rules.{rules}
-use Rattle.lent_bytes.proofs.Parts.{Filled, filled_none, filled_more, filled_done}
-use Rattle.vesztamor.specs.Metering.{server_row_bytes, metered_bytes}
-use Rattle.vesztamor.proofs.Rows.{server_row_long, row_stored}
+use Rattle.lent_bytes.proofs.Parts.{Filled}
+use Rattle.vesztamor.specs.Metering.{server_row_bytes}
 use Rattle.vesztamor.proofs.metering.put_rows.Given as goal
 
 abbrev pub invariant-loop-s : goal.invariant-loop-s

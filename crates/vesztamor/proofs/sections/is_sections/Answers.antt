@@ -1,6 +1,5 @@
 -- `vesztamor::sections::is_sections` meets its contract. Assumes nothing.
 use borrow.Author.Tests.{lt-leb, le-leb}
-use borrow.Author.Rules.{rules}
 use Rattle.vesztamor.specs.Tables.{is_sized}
 use Rattle.vesztamor.proofs.sections.is_sections.Goals as goal
 

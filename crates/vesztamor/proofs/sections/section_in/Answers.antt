@@ -1,5 +1,4 @@
 -- `vesztamor::sections::section_in` meets its contract. Assumes nothing.
-use borrow.Author.Rules.{rules}
 use Rattle.vesztamor.specs.Tables.{section_in}
 use Rattle.vesztamor.proofs.sections.section_in.Goals as goal
 

@@ -1,6 +1,5 @@
 -- `vesztamor::sections::section_of` meets its contract. Assumes nothing.
 use mathlib.Core.Path.{◌∙◌}
-use borrow.Author.Rules.{rules}
 use native.Mathlib.Omega.{arith}
 use Rattle.vesztamor.specs.Tables.{section_in}
 use Rattle.vesztamor.proofs.Lines.{sized_least, sized_length, row_yes, row_no}

@@ -1,9 +1,7 @@
 -- `vesztamor::states::clear` meets its contract. Assumes nothing.
-use mathlib.Core.Path.{◌≡◌, refl}
-use Prim.Native.Nat.{◌≤◌, ◌-◌}
+use mathlib.Core.Path.{refl}
 use native.Mathlib.Omega.{arith}
-use lib.ListN.{length, length-set}
-use Rattle.laws.specs.Loops.{set_to}
+use lib.ListN.{length-set}
 use Rattle.laws.proofs.Set.{set_none, set_more}
 use Rattle.vesztamor.proofs.Ways.{cleared}
 use Rattle.vesztamor.proofs.states.clear.Goals as goal

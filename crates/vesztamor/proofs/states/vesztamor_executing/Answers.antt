@@ -1,6 +1,5 @@
 -- `vesztamor::states::vesztamor_executing` meets its contract. Assumes nothing.
 use mathlib.Core.Path.{ap, ◌∙◌}
-use borrow.Author.Rules.{rules}
 use Rattle.vesztamor.specs.Packed.{packed}
 use Rattle.settle.specs.Doing.{said_doing}
 use Rattle.vesztamor.specs.Exported.{doing_told}

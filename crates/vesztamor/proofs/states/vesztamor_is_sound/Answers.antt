@@ -1,6 +1,5 @@
 -- `vesztamor::states::vesztamor_is_sound` meets its contract. Assumes nothing.
 use mathlib.Core.Path.{ap, sym, ◌∙◌}
-use borrow.Author.Rules.{rules}
 use Rattle.vesztamor.specs.Packed.{packed}
 use Rattle.vesztamor.proofs.Ways.{sound_yes, sound_no}
 use Rattle.vesztamor.proofs.states.vesztamor_is_sound.Goals as goal

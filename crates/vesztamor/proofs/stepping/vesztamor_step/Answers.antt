@@ -1,7 +1,5 @@
 -- `vesztamor::stepping::vesztamor_step` meets its contract. Assumes nothing.
 use mathlib.Core.Path.{refl, sym, ap, ◌∙◌}
-use borrow.Author.Tests.{not-true, not-false}
-use borrow.Author.Rules.{rules}
 use Rattle.model.specs.Step.{stepped}
 use Rattle.image.proofs.Image.{decoded_long}
 use Rattle.vesztamor.proofs.Held.{held, unheld}
@@ -10,83 +8,44 @@ use Rattle.vesztamor.proofs.stepping.vesztamor_step.Goals as goal
 
 pub returns-then-holds_sound : goal.returns-then-holds_sound
 returns-then-holds_sound c =
-    record {
-      answer = (both _ _ _ _ _
-          (step_unknown _ _ _ _ _ (sym c.is_event_lem.ensures ∙ not-true _ c.if1.true)
-          (sym c.holds_sound.ensures ∙ c.if-holds_sound.true))
-          c.refusal.ensures
-          refl).0;
-      bytes = (both _ _ _ _ _
-          (step_unknown _ _ _ _ _ (sym c.is_event_lem.ensures ∙ not-true _ c.if1.true)
-          (sym c.holds_sound.ensures ∙ c.if-holds_sound.true))
-          c.refusal.ensures
-          refl).1;
-    }
+    both _ _ _ _ _
+    (step_unknown _ _ _ _ _ (sym c.is_event.ensures ∙ c.if-not-is_event.true)
+    (sym c.holds_sound.ensures ∙ c.if-holds_sound.true))
+    c.refusal.ensures
+    refl
 
 pub returns-then-not-is_event : goal.returns-then-not-is_event
 returns-then-not-is_event c =
-    record {
-      answer = (both _ _ _ _ _
-          (step_unsound _ _ _ _ _ (sym c.is_event_lem.ensures ∙ not-true _ c.if1.true)
-          (sym c.holds_sound.ensures ∙ c.if-holds_sound.false))
-          c.refusal-then-not-is_event.ensures
-          refl).0;
-      bytes = (both _ _ _ _ _
-          (step_unsound _ _ _ _ _ (sym c.is_event_lem.ensures ∙ not-true _ c.if1.true)
-          (sym c.holds_sound.ensures ∙ c.if-holds_sound.false))
-          c.refusal-then-not-is_event.ensures
-          refl).1;
-    }
+    both _ _ _ _ _
+    (step_unsound _ _ _ _ _ (sym c.is_event.ensures ∙ c.if-not-is_event.true)
+    (sym c.holds_sound.ensures ∙ c.if-holds_sound.false))
+    c.refusal-then-not-is_event.ensures
+    refl
 
 pub returns-in_default : goal.returns-in_default
 returns-in_default c =
-    record {
-      answer = (both _ _ _ _ _
-          (step_none _ _ _ _ _ (sym c.is_event_lem.ensures ∙ not-false _ c.if1.false)
-          (unheld _ _ _ c.read-read.ensures c.in_default.is))
-          c.refusal-in_default.ensures
-          refl).0;
-      bytes = (both _ _ _ _ _
-          (step_none _ _ _ _ _ (sym c.is_event_lem.ensures ∙ not-false _ c.if1.false)
-          (unheld _ _ _ c.read-read.ensures c.in_default.is))
-          c.refusal-in_default.ensures
-          refl).1;
-    }
+    both _ _ _ _ _
+    (step_none _ _ _ _ _ (sym c.is_event.ensures ∙ c.if-not-is_event.false)
+    (unheld _ _ _ c.read-read.ensures c.in_default.is))
+    c.refusal-in_default.ensures
+    refl
 
 pub returns-then-is_refused : goal.returns-then-is_refused
 returns-then-is_refused c =
-    record {
-      answer = (both _ _ _ _ _
-          (step_refused _ _ _ _ _ (sym c.is_event_lem.ensures ∙ not-false _ c.if1.false)
-          _ (held _ _ c.read-read.ensures c.in-Held.is) _
-          (c.step-outcome.ensures.value ∙ ap (stepped _) c.event_of-event.ensures)
-          (sym c.is_refused.ensures ∙ c.if-is_refused.true))
-          c.step_answer.ensures
-          refl).0;
-      bytes = (both _ _ _ _ _
-          (step_refused _ _ _ _ _ (sym c.is_event_lem.ensures ∙ not-false _ c.if1.false)
-          _ (held _ _ c.read-read.ensures c.in-Held.is) _
-          (c.step-outcome.ensures.value ∙ ap (stepped _) c.event_of-event.ensures)
-          (sym c.is_refused.ensures ∙ c.if-is_refused.true))
-          c.step_answer.ensures
-          refl).1;
-    }
+    both _ _ _ _ _
+    (step_refused _ _ _ _ _ (sym c.is_event.ensures ∙ c.if-not-is_event.false)
+    _ (held _ _ c.read-read.ensures c.in-Held.is) _
+    (c.step-outcome.ensures.value ∙ ap (stepped _) c.event_of-event.ensures)
+    (sym c.is_refused.ensures ∙ c.if-is_refused.true))
+    c.step_answer.ensures
+    refl
 
 pub returns : goal.returns
 returns c =
-    record {
-      answer = (let holds = held c.args.state.now _ c.read-read.ensures c.in-Held.is in
-          both _ _ _ _ _
-          (step_done _ _ _ _ _ (sym c.is_event.ensures ∙ c.if-not-is_event.false) _ holds _
-          (c.step-outcome.ensures.value ∙ ap (stepped _) c.event_of-event.ensures)
-          (sym c.is_refused.ensures ∙ c.if-is_refused.false))
-          c.step_answer-2.ensures
-          (c.write.ensures.image ∙ written_whole _ c.args.state.now (decoded_long c.args.state.now _ holds))).0;
-      bytes = (let holds = held c.args.state.now _ c.read-read.ensures c.in-Held.is in
-          both _ _ _ _ _
-          (step_done _ _ _ _ _ (sym c.is_event.ensures ∙ c.if-not-is_event.false) _ holds _
-          (c.step-outcome.ensures.value ∙ ap (stepped _) c.event_of-event.ensures)
-          (sym c.is_refused.ensures ∙ c.if-is_refused.false))
-          c.step_answer-2.ensures
-          (c.write.ensures.image ∙ written_whole _ c.args.state.now (decoded_long c.args.state.now _ holds))).1;
-    }
+    let holds = held c.args.state.now _ c.read-read.ensures c.in-Held.is in
+    both _ _ _ _ _
+    (step_done _ _ _ _ _ (sym c.is_event.ensures ∙ c.if-not-is_event.false) _ holds _
+    (c.step-outcome.ensures.value ∙ ap (stepped _) c.event_of-event.ensures)
+    (sym c.is_refused.ensures ∙ c.if-is_refused.false))
+    c.step_answer-2.ensures
+    (c.write.ensures.image ∙ written_whole _ c.args.state.now (decoded_long c.args.state.now _ holds))

@@ -1,6 +1,5 @@
 -- `vesztamor::tables::is_table` meets its contract. Assumes nothing.
 use borrow.Author.Tests.{lt-leb, le-leb}
-use borrow.Author.Rules.{rules}
 use Rattle.vesztamor.specs.Tables.{is_sized}
 use Rattle.vesztamor.proofs.tables.is_table.Goals as goal
 

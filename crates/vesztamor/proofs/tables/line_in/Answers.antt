@@ -1,6 +1,5 @@
 -- `vesztamor::tables::line_in` meets its contract. Assumes nothing.
 use mathlib.Core.Path.{◌∙◌}
-use borrow.Author.Rules.{rules}
 use native.Mathlib.Omega.{arith}
 use Rattle.trace.specs.Reading.{entry_in}
 use Rattle.vesztamor.proofs.Lines.{sized_least, sized_length, row_yes, row_no}

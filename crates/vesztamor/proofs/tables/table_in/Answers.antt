@@ -1,13 +1,7 @@
 -- `vesztamor::tables::table_in` meets its contract. Assumes nothing.
-use mathlib.Core.Path.{◌≡◌}
-use Prim.Native.Nat.{◌≤◌, ◌-◌}
-use borrow.Author.Rules.{rules}
 use native.Mathlib.Omega.{arith}
-use lib.ListN.{replicate}
-use Rattle.laws.specs.Loops.{set_to}
 use Rattle.laws.proofs.Set.{set_none, set_more, set_done}
-use Rattle.model.specs.Fresh.{no_entry}
-use Rattle.vesztamor.specs.Tables.{line_in, table_in}
+use Rattle.vesztamor.specs.Tables.{table_in}
 use Rattle.vesztamor.proofs.Lines.{sized_least}
 use Rattle.vesztamor.proofs.tables.table_in.Goals as goal
 
