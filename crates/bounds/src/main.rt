@@ -11,6 +11,7 @@ use model::{TaskNo, Verdict};
 use std::env::FillError;
 use std::io;
 use std::io::Read;
+use std::process::ExitCode;
 use std::rt::Env;
 
 // The allowance where none is given: the largest.
@@ -154,20 +155,29 @@ fn read_full(reader: &mut impl Read, text: &mut [u8]) -> usize
     done
 }
 
-fn main(rt: HostRuntime) -> io::Result<()> {
-    if is_given(&rt, 2) {
+// The answer to the table on standard input, or why it is not looked at.
+fn answer(rt: &(impl Env + Input + Print + Eprint)) -> io::Result<()> {
+    if is_given(rt, 2) {
         return complain(
-            &rt,
+            rt,
             "bounds: too many arguments: give one number, the allowance, or none\n",
         );
     }
     let mut text = [0u8; TEXT_BYTES];
-    let n = read_full(&mut rt.stdin(), &mut text);
+    let n = read_full(&mut rt.reader(), &mut text);
     if n == TEXT_BYTES {
         return complain(
-            &rt,
+            rt,
             "bounds: the table has more than 65535 bytes: shorten it, its comments first\n",
         );
     }
-    put_reading(&rt, bound_text::read::read(&text[..n]), allowance(&rt))
+    put_reading(rt, bound_text::read::read(&text[..n]), allowance(rt))
+}
+
+// A refused table is an answer like a bound. That something could not be written is told by the exit status alone.
+fn main(rt: HostRuntime) -> ExitCode {
+    match answer(&rt) {
+        Ok(()) => ExitCode::SUCCESS,
+        Err(_) => ExitCode::FAILURE,
+    }
 }
