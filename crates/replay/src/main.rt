@@ -9,6 +9,8 @@ ghost use Rattle.replay.specs.Input.{Within};
 
 use listing::Replayed;
 use listing::buffers::{SHORT_FILE, file_buffer, short_text_buffer, text_buffer};
+use std::io;
+use std::io::Read;
 
 // How many bytes were read, or that a read failed.
 #[derive(Clone, Copy)]
@@ -17,21 +19,23 @@ enum Input {
     Failed,
 }
 
-// Reads until the buffer is full or the input ends.
-fn read_all(file: &mut [u8]) -> Input
+// Reads until the buffer is full or the input ends. Where a read fails, a line on standard error says so.
+fn read_all(rt: &(impl io::Input + Eprint), file: &mut [u8]) -> Input
     ensures { Within result (length file.new) }
 {
+    let mut input = rt.reader();
     let mut n: usize = 0;
     while n < file.len() {
-        let got = libc::read(libc::STDIN_FILENO, &mut file[n..]);
-        if got < 0 {
-            return Input::Failed;
+        match input.read(&mut file[n..]) {
+            Ok(0) => return Input::Whole(n),
+            Ok(more) => n += more,
+            Err(error) => {
+                let _ = eprintln!(rt;
+                    "replay: no listing, give a trace that can be read on standard input: {error}"
+                );
+                return Input::Failed;
+            }
         }
-        let more = io::count(got, &file[n..]);
-        if more == 0 {
-            return Input::Whole(n);
-        }
-        n += more;
     }
     Input::Whole(n)
 }
@@ -47,27 +51,28 @@ fn put_whole(file: &[u8], out: &mut [u8]) -> usize
     n
 }
 
-// Writes the listing to standard output, by way of the buffer.
-fn print(file: &[u8], out: &mut [u8])
+// Writes the listing to standard output, by way of the buffer. Where a write fails, a line on standard error says so.
+fn print(rt: &(impl Print + Eprint), file: &[u8], out: &mut [u8])
     requires { room (length file.now) ≤ length out.old }
 {
     let written = put_whole(file, out);
-    if !io::write_all(libc::STDOUT_FILENO, &out[..written]) {
-        os::fail(b"replay: the listing is not whole, look at where standard output goes");
+    if let Err(error) = rt.write_all(&out[..written]) {
+        let _ = eprintln!(rt;
+            "replay: the listing is not whole, look at where standard output goes: {error}"
+        );
     }
 }
 
-fn main() {
+fn main(rt: HostRuntime) {
     let mut file = file_buffer();
-    let Input::Whole(n) = read_all(&mut file) else {
-        os::fail(b"replay: no listing, give a trace that can be read on standard input");
+    let Input::Whole(n) = read_all(&rt, &mut file) else {
         return;
     };
     if n <= SHORT_FILE {
         let mut out = short_text_buffer();
-        print(&file[..n], &mut out);
+        print(&rt, &file[..n], &mut out);
         return;
     }
     let mut out = text_buffer();
-    print(&file[..n], &mut out);
+    print(&rt, &file[..n], &mut out);
 }

@@ -1,8 +1,7 @@
 -- `replay::put_whole` meets its contract: a buffer with room is never too short, and the listing stands at its start. Assumes nothing.
 use mathlib.Core.Path.{◌≡◌, ◌∙◌}
-use Prim.Native.Nat.{ℕ, ◌≤◌}
 use mathlib.Core.List.{List}
-use borrow.Author.Rules.{rules}
+use Prim.Native.Nat.{ℕ, ◌≤◌}
 use native.Mathlib.Omega.{arith}
 use lib.ListN.{length, take, drop}
 use lib.Seq.{take-append-le, take_all}
@@ -11,8 +10,7 @@ use Rattle.listing.specs.declared.Replayed.TheVariants.{Written, TooShort}
 use Rattle.listing.specs.Listing.{listing}
 use Rattle.listing.specs.Replay.{room, replayed, buffer_after}
 use Rattle.listing.proofs.Answers.{has_room, written_fits, buffer_is}
-use Rattle.replay.proofs.put_whole.Statement.{statement}
-use Rattle.replay.proofs.put_whole.Tie as tie
+use Rattle.replay.proofs.put_whole.Goals as goal
 
 module _ (file lent : List ℕ) (r : Replayed) (l : room (length file) ≤ length lent) (e : r ≡ replayed file (length lent)) where
   never_short : {C : Type 0} → r ≡ TooShort → C
@@ -28,24 +26,10 @@ module _ (file lent : List ℕ) (r : Replayed) (l : room (length file) ≤ lengt
   whole_fits : (n : ℕ) → r ≡ Written n → n ≤ length lent
   whole_fits n f = written_fits file lent n (cc)
 
-too_short : tie.Need-returns
-too_short c =
-    let call = c.before.before.before.before in
-    let start = call.before.before.before.before in
-    never_short start.args.file.now start.args.out.now _ start.requires call.replay.ensures.0 c.enum_told.given.1
+pub returns-in_default : goal.returns-in_default
+returns-in_default c = never_short _ _ _ c.requires c.replay.ensures.value c.in_default.is
 
-whole : tie.Need-returns-2
-whole c =
-    let call = c.before.before.before.before.before in
-    let start = call.before.before.before.before in
-    let fits = whole_fits start.args.file.now start.args.out.now _ start.requires call.replay.ensures.0 _ c.before.n.given.1 in
-    (whole_text start.args.file.now start.args.out.now _ start.requires call.replay.ensures.0 _ _ call.replay.ensures.1.0 c.before.n.given.1, omega (arith, fits))
-
-pub put_whole_spec : {M : Type 1} → statement M
-put_whole_spec =
-    tie.close
-    (tie.spec
-    (λ c κs. search rules) (λ c. search rules) (λ c. search rules) (λ c. search rules)
-    too_short
-    (λ c. search rules)
-    whole)
+pub returns : goal.returns
+returns c =
+    let fits = whole_fits _ _ _ c.requires c.replay.ensures.value _ c.in-Written.is in
+    (whole_text _ _ _ c.requires c.replay.ensures.value _ _ c.replay.ensures.text c.in-Written.is, omega (arith, fits))
