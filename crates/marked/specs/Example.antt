@@ -24,7 +24,7 @@ use Rattle.bound.specs.declared.Bounded.{Bounded}
 use Rattle.bound.specs.Answer as bound
 use Rattle.trace.specs.declared.Read.{Read}
 use Rattle.trace.specs.Reading.{read_at}
-use Rattle.bytes.specs.Text.{bytes}
+use Rattle.lent_bytes.specs.Text.{bytes}
 use Rattle.listing.specs.Listing.{listing}
 use Rattle.marked.specs.Clauses.{Clause, broken}
 

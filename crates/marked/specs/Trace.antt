@@ -1,6 +1,6 @@
 -- A table and events, and the bytes of their trace: how the examples are written down. Assumes nothing.
 use Rattle.std.specs.Prelude.{List, [], ◌∷◌, ◌++◌, ℕ, zero, suc, ◌+◌, ◌-◌, length, replicate}
-use Rattle.bytes.specs.Numbers.{two, four}
+use Rattle.lent_bytes.specs.Numbers.{two, four}
 use Rattle.model.specs.declared.Entry.{Entry}
 use Rattle.model.specs.declared.Table.{Table}
 use Rattle.model.specs.declared.Event.{Event}
