@@ -1,4 +1,4 @@
-//! A safe wrapper over the static library (`rt staticlib vesztamor`). The proved functions take any bytes and any numbers, so nothing is tested here:
+//! A safe wrapper over the static library (`.ci/library`). The proved functions take any bytes and any numbers, so nothing is tested here:
 //! the wrapper only turns slices into pointers and lengths, and answers back into words. Layouts: `docs/STATE.md`. A program compares [`layout`] with
 //! [`LAYOUT`] once, before anything else.
 //!

@@ -99,7 +99,7 @@ fn sizes_are_those_of_the_source() {
         vesztamor::BOUND_BYTES as u64
     );
     assert!(text("crates/vesztamor/specs/Exported.antt")
-        .contains(&format!("boundSize = {}\n", vesztamor::BOUND_BYTES)));
+        .contains(&format!("bound_size = {}\n", vesztamor::BOUND_BYTES)));
     assert_eq!(
         constants("crates/vesztamor/src/metering.rt")["METER_ROW_SIZE"],
         vesztamor::ROW_BYTES as u64
@@ -114,9 +114,9 @@ fn room_for_a_text_is_that_of_the_source() {
         vesztamor::text_bytes(0),
     );
     let source = text("crates/listing/specs/Replay.antt");
-    assert!(source.contains("room n = roomEach * n + roomMore\n"));
-    assert!(source.contains(&format!("roomEach = {each}\n")));
-    assert!(source.contains(&format!("roomMore = {more}\n")));
+    assert!(source.contains("room n = room_each * n + room_more\n"));
+    assert!(source.contains(&format!("room_each = {each}\n")));
+    assert!(source.contains(&format!("room_more = {more}\n")));
     assert!(text("bindings/vesztamor.h").contains(&format!(
         "VESZTAMOR_TEXT_BYTES(trace) ({each} * (size_t)(trace) + {more})\n"
     )));

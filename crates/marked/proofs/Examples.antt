@@ -63,15 +63,15 @@ unfolding first_of count_to all_to sum_to set_to fold_to better_of best_to join_
     used_declared all_declared chain_open idle_fits executor_fits served_executes accounts_fit loose sound counts_refusal entry_refusal task_refusal fresh_refusal
     fresh_server_at fresh_task_at fresh_state fresh_of budget_at chosen executor_by settled_task settled server_by each_server wakes woken_server woken rests
     rested_server rested slept phased own_ticks lent_ticks spin_ticks runs_out spent_server ticked_task task_by elapsed recharged_phase recharged next_in_queue
-    shifted granted joined rested_end locked freed passed unlocked crowded affords ends_at top_of state_after attempted stepped sets.inEither sets.joined sets.notInBoth
-    sets.meets sections.around sections.outer sections.sectionFits sections.childLength sections.childrenFit sections.sectionRefusal sections.tableRefusal
-    sections.refusal interference.gathered interference.weighingIf interference.weighedOn interference.best interference.triedNext interference.order
-    interference.blocker interference.blockers interference.ordering interference.sumOver interference.sums interference.level interference.bound
+    shifted granted joined rested_end locked freed passed unlocked crowded affords ends_at top_of state_after attempted stepped sets.in_either sets.joined sets.not_in_both
+    sets.meets sections.around sections.outer sections.section_fits sections.child_length sections.children_fit sections.section_refusal sections.table_refusal
+    sections.refusal interference.gathered interference.weighing_if interference.weighed_on interference.best interference.tried_next interference.order
+    interference.blocker interference.blockers interference.ordering interference.sum_over interference.sums interference.level interference.bound
     bounded.answer two_bytes four_bytes two four body_length entry_in record_in read_fault read_at items_from items_at items bytes digits decimal field newline spelled phase_word
     event_line stop_line server_line task_line end_lines items_text listing row_of metered_row metered_rows meter_refusal metered not_in_both shares not_from found_next
-    spread in_group any_key group_of clauses.quotaFrom1 clauses.quotaToPeriod clauses.periodToLimit clauses.depthFits clauses.entriesPresent
-    clauses.waitingFits clauses.waitersHere clauses.stacksAgree clauses.queuesAgree clauses.ownerDeclares clauses.waiterDeclares clauses.allHeldDeclared
-    clauses.allAwaitedDeclared clauses.ownFits clauses.lentFits clauses.spinFits clauses.executedFits clauses.sumFits clauses.brokenOf clauses.broken
+    spread in_group any_key group_of clauses.quota_from1 clauses.quota_to_period clauses.period_to_limit clauses.depth_fits clauses.entries_present
+    clauses.waiting_fits clauses.waiters_here clauses.stacks_agree clauses.queues_agree clauses.owner_declares clauses.waiter_declares clauses.all_held_declared
+    clauses.all_awaited_declared clauses.own_fits clauses.lent_fits clauses.spin_fits clauses.executed_fits clauses.sum_fits clauses.broken_of clauses.broken
 examples = (
   refl and refl and refl and elapse_refused 0 refl and elapse_refused 1000001 refl and refl and refl and refl and refl and
       refl and refl and refl and refl and refl and nothing,

@@ -1,5 +1,5 @@
 -- Further examples, computed like the marked ones, by theme: one list. They are what tells wrong variants of the definitions apart
--- (must-fail/*.variant). Assumes nothing.
+-- (variants/*.variant). Assumes nothing.
 use Rattle.std.specs.Prelude.{List, ◌++◌}
 use Rattle.marked.specs.Example.{Example}
 use Rattle.marked.specs.Runs.{runs}
