@@ -120,6 +120,10 @@ def spans(text, names):
 
 for file, text in texts.items():
     names = new_name | alone.get(file, {})
+    # a library's name that is spelled like one of the repository's stays
+    for path, items in re.findall(r'(?m)^use (\S+)\.\{([^}]*)\}', text):
+        if not path.startswith('Rattle.'):
+            names = {name: new for name, new in names.items() if name not in items.split(', ')}
     if file.suffix == '.antt':
         if f'{SETS_HOME}.{{' in text and re.search(rf'{re.escape(SETS_HOME)}\.\{{[^}}]*\b(nothing|only)\b', text) or file == crates / 'theory/specs/Rules.antt':
             names = names | SETS

@@ -1,7 +1,7 @@
 -- A state is sound exactly when it breaks none of the clauses (specs/Clauses): no clause is missing there, and none is more than soundness says.
 -- A test that has parts holds of all numbers where each part does. Assumes nothing.
 use mathlib.Core.Path.{◌≡◌, refl, sym, ap, ◌∙◌}
-use mathlib.Core.Bool.{Bool, true, false, ◌&&◌, ◌||◌, and_true, and_assoc}
+use mathlib.Core.Bool.{Bool, true, false, ◌&&◌, ◌||◌, and-true, and_assoc}
 use mathlib.Core.List.{List, [], ◌∷◌}
 use Prim.Native.Nat.{ℕ, zero, suc}
 use lib.Dec.{eqb}
@@ -100,7 +100,7 @@ kept_or_broken false c cs = refl
 
 all_unbroken : (st : State) (b : Bool) (cs : List Clause) → all_of st b cs ≡ (b && empty (broken_of st cs))
 unfolding all_of broken_of
-all_unbroken st b [] = sym (and_true b)
+all_unbroken st b [] = sym (and-true b)
 all_unbroken st b (c ∷ cs) =
     all_unbroken st (b && keeps st c) cs ∙ and_assoc b (keeps st c) (empty (broken_of st cs))
     ∙ ap (λ x. b && x) (kept_or_broken (keeps st c) c (broken_of st cs))

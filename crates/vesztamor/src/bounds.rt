@@ -24,8 +24,7 @@ fn put_bound(out: &mut [u8], value: u64, weighings: u32)
 }
 
 // The bound of a task and the weighings spent on it, into the bytes lent for them.
-#[unsafe(no_mangle)]
-pub extern "C" fn vesztamor_bound(sections: &[u8], task: u16, allowance: u32, out: &mut [u8]) -> u64
+pub fn vesztamor_bound(sections: &[u8], task: u16, allowance: u32, out: &mut [u8]) -> u64
     ensures answer { result ≡ packed (bound_export sections.now task allowance out.old).answer }
     ensures bytes { out.new ≡ (bound_export sections.now task allowance out.old).bytes }
 {

@@ -5,8 +5,7 @@ ghost use Rattle.vesztamor.specs.Exported.{layout};
 const LAYOUT: u64 = 1;
 
 // The layouts that the library is built for. A caller that is built for others reads states, tables, rows and answers wrongly.
-#[unsafe(no_mangle)]
-pub extern "C" fn vesztamor_layout() -> u64
+pub fn vesztamor_layout() -> u64
     ensures { result ≡ layout }
 {
     LAYOUT

@@ -1,5 +1,5 @@
-// The static library for the kernel desk and for tests: functions on numbers and lent bytes, total, in the C calling convention. An answer is one number
-// of 64 bits (specs/Packed.antt); a refusal writes nothing. Layouts are in docs/STATE.md. Assumes nothing.
+// What the static library offers the kernel desk and tests: functions on numbers and lent bytes, total. An answer is one number of 64 bits
+// (specs/Packed.antt); a refusal writes nothing. Layouts are in docs/STATE.md. The crate `vesztamor_c` gives them to C. Assumes nothing.
 #![tactic(auto)]
 
 mod answers;

@@ -51,8 +51,7 @@ fn put_rows(bytes: &mut [u8], st: State, n: u16)
 }
 
 // What each server has left and has accounted for, into the rows lent for it.
-#[unsafe(no_mangle)]
-pub extern "C" fn vesztamor_meter(state: &[u8], rows: &mut [u8]) -> u64
+pub fn vesztamor_meter(state: &[u8], rows: &mut [u8]) -> u64
     ensures answer { result ≡ packed (meter_export state.now rows.old).answer }
     ensures bytes { rows.new ≡ (meter_export state.now rows.old).bytes }
 {

@@ -7,8 +7,7 @@ use crate::answers::refusal;
 use listing::Replayed;
 
 // The listing of a trace, at the start of the bytes lent for it.
-#[unsafe(no_mangle)]
-pub extern "C" fn vesztamor_replay(trace: &[u8], out: &mut [u8]) -> u64
+pub fn vesztamor_replay(trace: &[u8], out: &mut [u8]) -> u64
     ensures answer { result ≡ packed (replay_export trace.now out.old).answer }
     ensures bytes { out.new ≡ (replay_export trace.now out.old).bytes }
 {

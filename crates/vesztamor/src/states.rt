@@ -21,8 +21,7 @@ fn clear(bytes: &mut [u8])
 }
 
 // The fresh state of a table, into the bytes lent for it, with 0 in every byte past its counts.
-#[unsafe(no_mangle)]
-pub extern "C" fn vesztamor_fresh(table: &[u8], state: &mut [u8]) -> u64
+pub fn vesztamor_fresh(table: &[u8], state: &mut [u8]) -> u64
     ensures answer { result ≡ packed (fresh_export table.now state.old).answer }
     ensures bytes { state.new ≡ (fresh_export table.now state.old).bytes }
 {
@@ -46,16 +45,14 @@ pub extern "C" fn vesztamor_fresh(table: &[u8], state: &mut [u8]) -> u64
 }
 
 // Whether the bytes hold a sound state.
-#[unsafe(no_mangle)]
-pub extern "C" fn vesztamor_is_sound(state: &[u8]) -> u64
+pub fn vesztamor_is_sound(state: &[u8]) -> u64
     ensures { result ≡ packed (sound_export state.now) }
 {
     if holds_sound(state) { 0 } else { refusal(1) }
 }
 
 // What a server is doing in the state that the bytes hold.
-#[unsafe(no_mangle)]
-pub extern "C" fn vesztamor_executing(state: &[u8], server: u16) -> u64
+pub fn vesztamor_executing(state: &[u8], server: u16) -> u64
     ensures { result ≡ packed (executing_export state.now server) }
 {
     let read = image::reading::read(state);

@@ -9,8 +9,7 @@ use image::ImageAnswer;
 use trace::kinds::{event_of, is_event};
 
 // One event: the state after it in place of the bytes, or a refusal and the bytes as they were.
-#[unsafe(no_mangle)]
-pub extern "C" fn vesztamor_step(
+pub fn vesztamor_step(
     state: &mut [u8],
     kind: u16,
     number: u16,
