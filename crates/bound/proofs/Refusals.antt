@@ -1,4 +1,5 @@
 -- Verdicts: which test tells, and which pass. Assumes nothing.
+use Rattle.std.specs.Prelude.{if◌then◌else◌}
 use mathlib.Core.Path.{◌≡◌, ap, ap₂, ◌∙◌}
 use mathlib.Core.Bool.{Bool, true, false, not, ◌&&◌}
 use mathlib.Core.Option.{none}
@@ -8,7 +9,7 @@ use lib.Dec.{ltb, leb}
 use borrow.Author.Tests.{leb-true, eq-eqb, ne_eqb}
 use Rattle.laws.proofs.Cases.{and_right}
 use Rattle.laws.proofs.Fold.{turns_done}
-use Rattle.laws.specs.Tests.{if◌then◌else◌, accepted, ◌when◌or◌, first_of}
+use Rattle.laws.specs.Tests.{accepted, ◌when◌or◌, first_of}
 use Rattle.laws.specs.Loops.{all_to, sum_to, fold_to}
 use Rattle.model.specs.Verdicts.{verdict, first_refused, refused_if}
 use Rattle.model.proofs.Refused.{verdict_or, verdict_if, one_by_one}

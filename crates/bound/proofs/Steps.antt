@@ -1,4 +1,5 @@
 -- What the arrays show of the table at each step of the calculation, and what a step is made of. Assumes nothing.
+use Rattle.std.specs.Prelude.{if◌then◌else◌}
 use mathlib.Core.Path.{◌≡◌, refl, sym, ap, ◌∙◌}
 use mathlib.Core.Bool.{Bool, true, false, not, ◌&&◌, ◌||◌}
 use mathlib.Core.List.{List}
@@ -10,7 +11,6 @@ use lib.Dec.{ltb, eqb}
 use lib.ListN.{get_or, set}
 use lib.Seq.{set-get_or}
 use borrow.Author.Tests.{le-ltb, eqb-true, eq-eqb, ne_eqb, eqb-false}
-use Rattle.laws.specs.Tests.{if◌then◌else◌}
 use Rattle.laws.proofs.Cases.{split, and_left}
 use Rattle.bound.specs.declared.Parent.{Parent}
 use Rattle.bound.specs.declared.Sections.{Sections}

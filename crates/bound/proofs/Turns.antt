@@ -1,4 +1,5 @@
 -- What an allowance makes of one calculation, of two one after the other, and of the turns of a loop. Assumes nothing.
+use Rattle.std.specs.Prelude.{if◌then◌else◌}
 use mathlib.Core.Path.{◌≡◌, refl, sym, ap, ap₂, ◌∙◌}
 use mathlib.Core.Option.{none}
 use mathlib.Core.Logic.{⊎_elim}
@@ -8,7 +9,6 @@ use native.Mathlib.Numerals.{add-one}
 use native.Mathlib.Omega.{arith}
 use lib.Dec.{leb, ltb}
 use borrow.Author.Tests.{le-leb, lt-leb, leb-true, leb-false, lt-ltb, le-ltb}
-use Rattle.laws.specs.Tests.{if◌then◌else◌}
 use Rattle.laws.proofs.Cases.{split}
 use Rattle.bound.specs.declared.Tally.TheVariants.{Of, Exceeded}
 use Rattle.bound.specs.Interference.{Weighed, weighed, nothing, both, larger, gathered, first_greatest}

@@ -1,7 +1,6 @@
 -- What is answered for a table, a task and an allowance (rule 12.9), and what each answer says. Assumes nothing.
-use Rattle.std.specs.Prelude.{ℕ, ltb}
+use Rattle.std.specs.Prelude.{ℕ, ltb, if◌then◌else◌}
 use Rattle.std.proofs.Math.Option.{Option, none, some}
-use Rattle.laws.specs.Tests.{if◌then◌else◌}
 use Rattle.bound.specs.declared.Bounded.{Bounded}
 use Rattle.bound.specs.declared.Bounded.TheVariants.{Bound, Refused}
 use Rattle.bound.specs.declared.Sections.{Sections}

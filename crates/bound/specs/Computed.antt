@@ -1,9 +1,9 @@
 -- How the code computes: a refusal as it is handed on, resources as the bits of a number, the table drawn out into arrays, and what an allowance
 -- makes of a calculation that never sees it. Nothing here has to be believed: `bound::answer::bound` promises `Answer.answer`, and the laws that
 -- join the two stand in proofs/ (`Masks`, `Drawing`, `Skips`, `Turns`). Entries past the count say nothing. Assumes nothing.
-use Rattle.std.specs.Prelude.{◌≡◌, Bool, not, List, [], ◌∷◌, ℕ, zero, suc, ◌+◌, ◌-◌, ◌*◌, ◌/◌, ◌%◌, ◌^◌, ◌<◌, ◌≤◌, leb, eqb, get_or, set, replicate}
+use Rattle.std.specs.Prelude.{◌≡◌, Bool, not, List, [], ◌∷◌, ℕ, zero, suc, ◌+◌, ◌-◌, ◌*◌, ◌/◌, ◌%◌, ◌^◌, ◌<◌, ◌≤◌, leb, eqb, get_or, set, replicate, if◌then◌else◌}
 use Rattle.std.proofs.Math.Option.{Option, none, some}
-use Rattle.laws.specs.Tests.{if◌then◌else◌, accepted, ◌when◌or◌}
+use Rattle.laws.specs.Tests.{accepted, ◌when◌or◌}
 use Rattle.laws.specs.Loops.{set_to, fold_to}
 use Rattle.bound.specs.declared.Parent.{Parent}
 use Rattle.bound.specs.declared.Parent.TheVariants.{Outermost, Inside}

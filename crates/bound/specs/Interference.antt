@@ -1,9 +1,8 @@
 -- The interference sum and the ordering value, after Fig. 5 of document 004, each with its count of weighings.
 -- Two numbers fall: the tasks outside B (`level`), and within a level the depth (`sums`) or the tasks left to order (`order`).
 -- No calculation sees an allowance. Assumes nothing; for accepted tables proofs/ shows that the numbers cut nothing off.
-use Rattle.std.specs.Prelude.{ℕ, zero, suc, ◌+◌, ◌-◌, Bool, true, false, not, ◌&&◌, ltb, eqb}
+use Rattle.std.specs.Prelude.{ℕ, zero, suc, ◌+◌, ◌-◌, Bool, true, false, not, ◌&&◌, ltb, eqb, if◌then◌else◌}
 use Rattle.std.proofs.Math.Option.{Option, none, some}
-use Rattle.laws.specs.Tests.{if◌then◌else◌}
 use Rattle.laws.specs.Loops.{fold_to}
 use Rattle.bound.specs.declared.Parent.{Parent}
 use Rattle.bound.specs.declared.Parent.TheVariants.{Outermost, Inside}

@@ -1,8 +1,8 @@
 -- The table of sections: a section's outer resources (rule 12.3), and the refusals 40 to 45 in the order of rule 12.9.
 -- Entries past `count` are not read. Assumes nothing.
-use Rattle.std.specs.Prelude.{ℕ, zero, suc, Bool, true, false, not, ◌&&◌, List, ltb, leb, eqb, get_or}
+use Rattle.std.specs.Prelude.{ℕ, zero, suc, Bool, true, false, not, ◌&&◌, List, ltb, leb, eqb, get_or, if◌then◌else◌}
 use Rattle.std.proofs.Math.Option.{Option, none}
-use Rattle.laws.specs.Tests.{if◌then◌else◌, accepted, ◌when◌or◌, first_of, ◌or_else◌}
+use Rattle.laws.specs.Tests.{accepted, ◌when◌or◌, first_of, ◌or_else◌}
 use Rattle.laws.specs.Loops.{all_to, sum_to, fold_to}
 use Rattle.bound.specs.declared.Parent.{Parent}
 use Rattle.bound.specs.declared.Parent.TheVariants.{Outermost, Inside}

@@ -3,8 +3,7 @@
 // outer resources, and where a calculation's sections stand (`draw`), so that no weighing copies it. A contract says what a function leaves of the
 // allowance (`Spends`) for the calculation of `Interference` that it names, on every table that the arrays show; the law in brackets is what joins the
 // code's way with that definition. Assumes nothing.
-ghost use Rattle.std.specs.Prelude.{◌≡◌, true, ◌&&◌, ◌+◌, ◌-◌, ◌<◌, ◌≤◌, eqb, ltb, get_or};
-ghost use Rattle.laws.specs.Tests.{if◌then◌else◌};
+ghost use Rattle.std.specs.Prelude.{◌≡◌, true, ◌&&◌, ◌+◌, ◌-◌, ◌<◌, ◌≤◌, eqb, ltb, get_or, if◌then◌else◌};
 ghost use Rattle.bound.specs.declared.Sections.{Sections};
 ghost use Rattle.bound.specs.Sets.{task_numbers, resource_numbers, has};
 ghost use Rattle.bound.specs.Table.{section_numbers, million};

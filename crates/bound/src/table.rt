@@ -1,8 +1,8 @@
 // The tests of a table, a task and an allowance: 40 to 45 in the order of rule 12.9.
 // Entries past the count are not read. Assumes nothing.
-ghost use Rattle.std.specs.Prelude.{◌≡◌, ◌<◌, ◌≤◌};
+ghost use Rattle.std.specs.Prelude.{◌≡◌, ◌<◌, ◌≤◌, if◌then◌else◌};
 ghost use Rattle.std.proofs.Math.Option.{none};
-ghost use Rattle.laws.specs.Tests.{if◌then◌else◌, first_of};
+ghost use Rattle.laws.specs.Tests.{first_of};
 ghost use Rattle.laws.specs.Loops.{all_to, fold_to};
 ghost use Rattle.model.specs.Verdicts.{verdict};
 ghost use Rattle.bound.specs.Table.{section_numbers, directly_in, children_fit, section_tests, section_refusal, table_refusal, refusal};

@@ -1,11 +1,11 @@
 -- The text as the loops leave it. Assumes nothing.
+use Rattle.std.specs.Prelude.{if◌then◌else◌}
 use mathlib.Core.Path.{◌≡◌}
 use mathlib.Core.Bool.{not}
 use mathlib.Core.List.{List}
 use Prim.Native.Nat.{ℕ}
 use lib.Dec.{eqb}
 use lib.ListN.{length, get_or}
-use Rattle.laws.specs.Tests.{if◌then◌else◌}
 use Rattle.laws.specs.Loops.{fold_to}
 use Rattle.bound_text.specs.declared.Line.{Line}
 use Rattle.bound_text.specs.declared.Reading.{Reading}

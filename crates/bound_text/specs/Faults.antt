@@ -1,7 +1,6 @@
 -- The table that a text was read as, and the line at which it is refused. Assumes nothing.
-use Rattle.std.specs.Prelude.{Bool, false, ℕ, zero, suc, eqb, get_or}
+use Rattle.std.specs.Prelude.{Bool, false, ℕ, zero, suc, eqb, get_or, if◌then◌else◌}
 use Rattle.std.proofs.Math.Option.{Option, none, some}
-use Rattle.laws.specs.Tests.{if◌then◌else◌}
 use Rattle.bound.specs.declared.Sections.{Sections}
 use Rattle.bound.specs.Table.{section_numbers, table_refusal}
 use Rattle.bound_text.specs.declared.Reading.{Reading}

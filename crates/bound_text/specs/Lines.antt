@@ -1,6 +1,5 @@
 -- What a byte does to a line of a table's text: numbers and a dash with blanks between them, and a comment. Assumes nothing.
-use Rattle.std.specs.Prelude.{Bool, true, false, ◌&&◌, ◌||◌, List, ℕ, ◌+◌, ◌-◌, ◌*◌, ◌/◌, ltb, leb, eqb, get_or, set, replicate}
-use Rattle.laws.specs.Tests.{if◌then◌else◌}
+use Rattle.std.specs.Prelude.{Bool, true, false, ◌&&◌, ◌||◌, List, ℕ, ◌+◌, ◌-◌, ◌*◌, ◌/◌, ltb, leb, eqb, get_or, set, replicate, if◌then◌else◌}
 use Rattle.bound_text.specs.declared.Line.{Line}
 
 -- the fields of a section's line

@@ -1,6 +1,5 @@
 -- What a table's text is read as: what the end of a line does to what was read before it, and the whole text byte by byte. Assumes nothing.
-use Rattle.std.specs.Prelude.{Bool, true, false, not, List, ℕ, ◌+◌, ltb, eqb, length, get_or, set, replicate}
-use Rattle.laws.specs.Tests.{if◌then◌else◌}
+use Rattle.std.specs.Prelude.{Bool, true, false, not, List, ℕ, ◌+◌, ltb, eqb, length, get_or, set, replicate, if◌then◌else◌}
 use Rattle.laws.specs.Loops.{fold_to}
 use Rattle.bound.specs.declared.Parent.{Parent}
 use Rattle.bound.specs.declared.Parent.TheVariants.{Outermost, Inside}

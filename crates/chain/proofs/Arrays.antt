@@ -1,4 +1,5 @@
 -- What the arrays have at each place; that links and walk come to the chain ends; and what each loop of the code reads. Assumes nothing.
+use Rattle.std.specs.Prelude.{if◌then◌else◌}
 use mathlib.Core.Path.{◌≡◌, refl, sym, ◌∙◌, ap, ap₂}
 use mathlib.Core.Bool.{Bool, true, false}
 use mathlib.Core.List.{List}
@@ -8,7 +9,6 @@ use native.Mathlib.Omega.{arith}
 use lib.Dec.{ltb}
 use lib.ListN.{get_or}
 use borrow.Author.Tests.{ltb-true, ltb-false}
-use Rattle.laws.specs.Tests.{if◌then◌else◌}
 use Rattle.laws.proofs.Cases.{split}
 use Rattle.laws.proofs.Set.{set_same}
 use Rattle.laws.proofs.Making.{made_at}

@@ -1,7 +1,6 @@
 -- What is taken out of a state, as arrays of sixteen places: who owns each resource, what each task waits for, where its chain ends, whom each Running
 -- server serves, and what remains of its budget. `nobody` stands where there is none. Assumes nothing.
-use Rattle.std.specs.Prelude.{List, ℕ, get_or}
-use Rattle.laws.specs.Tests.{if◌then◌else◌}
+use Rattle.std.specs.Prelude.{List, ℕ, get_or, if◌then◌else◌}
 use Rattle.laws.specs.Loops.{made_by}
 use Rattle.model.specs.declared.TaskNo.{TaskNo}
 use Rattle.model.specs.declared.ServerNo.{ServerNo}

@@ -1,7 +1,6 @@
 -- How the chain ends are computed: the numbers of an array, the links that owners and waits make, and the walk along them. That it comes to the chain
 -- ends of specs/Arrays.antt is a law (proofs/Arrays.antt, `ends_are`). Assumes nothing.
-use Rattle.std.specs.Prelude.{List, ℕ, zero, suc, ltb, get_or}
-use Rattle.laws.specs.Tests.{if◌then◌else◌}
+use Rattle.std.specs.Prelude.{List, ℕ, zero, suc, ltb, get_or, if◌then◌else◌}
 use Rattle.model.specs.declared.TaskNo.{TaskNo}
 use Rattle.model.specs.State.{places, nobody}
 use Rattle.chain.specs.Arrays.{array_of, tasks_of}

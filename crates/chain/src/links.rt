@@ -1,10 +1,9 @@
 // Who owns each resource, what each task waits for, and the links that these make (rule 3.1), as arrays. Entries that are not in use are not read.
 // Assumes nothing.
-ghost use Rattle.std.specs.Prelude.{◌≡◌};
+ghost use Rattle.std.specs.Prelude.{◌≡◌, if◌then◌else◌};
 ghost use Rattle.chain.specs.Arrays.{owners_of, wanted_of};
 ghost use Rattle.chain.specs.Computed.{numbers_of, at_or_nobody, links_by};
 ghost use Rattle.model.specs.State.{in_use, owner_no};
-ghost use Rattle.laws.specs.Tests.{if◌then◌else◌};
 
 use model::{NOBODY, Owner, State, TaskNo};
 

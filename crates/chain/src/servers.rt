@@ -1,8 +1,7 @@
 // What rule H and the soundness test take out of a state's servers: whom the Running ones serve, and what remains of each budget. Entries that are not
 // in use are not read. Assumes nothing.
-ghost use Rattle.std.specs.Prelude.{◌≡◌};
+ghost use Rattle.std.specs.Prelude.{◌≡◌, if◌then◌else◌};
 ghost use Rattle.chain.specs.Arrays.{on_by, budgets_of};
-ghost use Rattle.laws.specs.Tests.{if◌then◌else◌};
 
 use model::{NOBODY, Server, TaskNo};
 

@@ -1,4 +1,5 @@
 -- The change of each event from its parts, as the code makes them; and that the events on servers and tasks change no chain. Assumes nothing.
+use Rattle.std.specs.Prelude.{if◌then◌else◌}
 use mathlib.Core.Path.{◌≡◌, refl, sym, ap, ap₂, ◌∙◌}
 use mathlib.Core.Bool.{Bool, true, false, ◌&&◌}
 use mathlib.Core.List.{List}
@@ -8,7 +9,7 @@ use lib.Dec.{ltb, eqb}
 use lib.ListN.{length, get_or, set, length-set, get_or-eq_default}
 use lib.Seq.{get_or-set_same, get_or-set_other}
 use borrow.Author.Tests.{eqb-true, eqb-false, eq-eqb, ne_eqb, ltb-true, ltb-false}
-use Rattle.laws.specs.Tests.{if◌then◌else◌, bit}
+use Rattle.laws.specs.Tests.{bit}
 use Rattle.laws.specs.Loops.{set_to}
 use Rattle.laws.proofs.Cases.{split, holds_fails, and_left, and_right}
 use Rattle.laws.proofs.Set.{length_set_to, set_cases}

@@ -1,4 +1,5 @@
 -- What n ticks make of an entry, and why no sum of ticks overflows: accounts are at most the clock, and the clock has a limit. Assumes nothing.
+use Rattle.std.specs.Prelude.{if◌then◌else◌}
 use mathlib.Core.Path.{◌≡◌, refl, ◌∙◌, ap, ap₂}
 use mathlib.Core.Bool.{Bool, true, false, not, ◌&&◌}
 use Prim.Native.Nat.{ℕ, ◌+◌, ◌-◌, ◌≤◌}
@@ -6,7 +7,7 @@ use native.Mathlib.Nat.{add-zero}
 use native.Mathlib.Numerals.{add-one}
 use native.Mathlib.Omega.{arith}
 use lib.Dec.{leb, eqb}
-use Rattle.laws.specs.Tests.{if◌then◌else◌, ◌implies◌}
+use Rattle.laws.specs.Tests.{◌implies◌}
 use Rattle.laws.specs.Loops.{all_to}
 use Rattle.laws.proofs.Cases.{and_both}
 use Rattle.laws.proofs.Fold.{turns_done}

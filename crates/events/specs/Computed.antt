@@ -1,8 +1,7 @@
 -- How the code computes: whether an event names nobody; the two turns of the servers that serve a task, waking and resting, as one loop makes them;
 -- what n ticks make of one server and one task in use, and of all. Assumes nothing.
-use Rattle.std.specs.Prelude.{Bool, true, false, ◌||◌, not, ◌&&◌, List, ℕ, ◌<◌, ◌+◌, ◌-◌, eqb}
+use Rattle.std.specs.Prelude.{Bool, true, false, ◌||◌, not, ◌&&◌, List, ℕ, ◌<◌, ◌+◌, ◌-◌, eqb, if◌then◌else◌}
 use Rattle.laws.specs.Loops.{count_to, set_to}
-use Rattle.laws.specs.Tests.{if◌then◌else◌}
 use Rattle.model.specs.declared.Event.{Event}
 use Rattle.model.specs.declared.Event.TheVariants.{Wake, Suspend, Dispatch, Preempt, Elapse, Recharge, Lock, Unlock}
 use Rattle.model.specs.declared.Phase.{Phase}

@@ -1,8 +1,8 @@
 // Wake, suspend, dispatch, preempt, elapse, recharge: the tests of each, but suspend's, which stand in `acting`, and its change. A change writes into the
 // state that it is given: copies of a state are what a step spends most on. None of these events changes a chain. A change assumes a sound state that no
 // test refuses the event.
-ghost use Rattle.std.specs.Prelude.{◌≡◌, true, not};
-ghost use Rattle.laws.specs.Tests.{first_of, if◌then◌else◌};
+ghost use Rattle.std.specs.Prelude.{◌≡◌, true, not, if◌then◌else◌};
+ghost use Rattle.laws.specs.Tests.{first_of};
 ghost use Rattle.model.specs.State.{server_at, here, running, suspended};
 ghost use Rattle.model.specs.Step.{tests};
 ghost use Rattle.model.specs.Verdicts.{verdict, refused_if};

@@ -1,7 +1,7 @@
 // What n ticks make of servers and tasks, by who executes when they begin. Entries that are not in use are not read.
 // Assumes that the budgets of Running servers last and that the accounts fit, which refusal 12 and soundness say.
-ghost use Rattle.std.specs.Prelude.{◌≡◌, true, ◌&&◌, ◌+◌, ◌-◌, ◌≤◌, leb, eqb};
-ghost use Rattle.laws.specs.Tests.{if◌then◌else◌, ◌implies◌};
+ghost use Rattle.std.specs.Prelude.{◌≡◌, true, ◌&&◌, ◌+◌, ◌-◌, ◌≤◌, leb, eqb, if◌then◌else◌};
+ghost use Rattle.laws.specs.Tests.{◌implies◌};
 ghost use Rattle.model.specs.State.{running};
 ghost use Rattle.model.specs.Sound.{each, sound};
 ghost use Rattle.model.specs.Step.{affords};

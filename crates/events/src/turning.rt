@@ -1,7 +1,6 @@
 // What becomes of the servers that serve a task when it wakes or comes to rest, and how many change. Servers that are not in use are not read.
 // Assumes that the chain ends are the state's, and that a woken server's deadline fits.
-ghost use Rattle.std.specs.Prelude.{◌≡◌, true, ℕ, ◌+◌, ◌<◌};
-ghost use Rattle.laws.specs.Tests.{if◌then◌else◌};
+ghost use Rattle.std.specs.Prelude.{◌≡◌, true, ℕ, ◌+◌, ◌<◌, if◌then◌else◌};
 ghost use Rattle.model.specs.State.{here, server_at};
 ghost use Rattle.model.specs.Events.{refilled};
 ghost use Rattle.chain.specs.Arrays.{ends_of};

@@ -1,5 +1,6 @@
 -- Bytes past the counts are neither read nor written (rule 1.7): images that are alike in use are read as one state, images of one state are alike in use,
 -- writing one state into both keeps them alike, and a byte past the counts stays. Assumes nothing.
+use Rattle.std.specs.Prelude.{if◌then◌else◌}
 use mathlib.Core.Path.{◌≡◌, sym, ap, ap₂, ◌∙◌}
 use mathlib.Core.Bool.{◌&&◌}
 use mathlib.Core.List.{List}
@@ -10,7 +11,6 @@ use native.Mathlib.Omega.{arith}
 use lib.Dec.{ltb, eqb}
 use lib.ListN.{length}
 use borrow.Author.Tests.{ltb-true, ltb-false}
-use Rattle.laws.specs.Tests.{if◌then◌else◌}
 use Rattle.laws.specs.Loops.{all_to}
 use Rattle.laws.proofs.Cases.{split}
 use Rattle.laws.proofs.All.{all_ext}

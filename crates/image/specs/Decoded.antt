@@ -1,9 +1,8 @@
 -- The state that an image holds, and which bytes are images: those of the one length in whose entries in use the variants are in range, with 0 where a
 -- variant holds no number. Any other bytes are no state's (law `encoded_decoded`) and are refused. Entries past the counts are not read: whatever stands
 -- there, the state has blank ones (rule 1.7). Assumes nothing.
-use Rattle.std.specs.Prelude.{Bool, ◌&&◌, ◌||◌, List, ℕ, ◌+◌, ◌*◌, ltb, eqb, length, replicate}
+use Rattle.std.specs.Prelude.{Bool, ◌&&◌, ◌||◌, List, ℕ, ◌+◌, ◌*◌, ltb, eqb, length, replicate, if◌then◌else◌}
 use Rattle.std.proofs.Math.Option.{Option, none, some}
-use Rattle.laws.specs.Tests.{if◌then◌else◌}
 use Rattle.laws.specs.Loops.{all_to, set_to}
 use Rattle.lent_bytes.specs.Numbers.{byte_at, two_bytes, four_bytes}
 use Rattle.model.specs.declared.TaskNo.{TaskNo}

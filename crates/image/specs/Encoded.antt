@@ -1,7 +1,6 @@
 -- A state in lent bytes, field by field: what writing leaves there. Numbers are little-endian; an enum is the number of its variant, and then the number
 -- that the variant holds, which is 0 where it holds none. Entries past the counts are not written (rule 1.7). Assumes nothing.
-use Rattle.std.specs.Prelude.{List, ◌++◌, ℕ, eqb, length, get_or}
-use Rattle.laws.specs.Tests.{if◌then◌else◌}
+use Rattle.std.specs.Prelude.{List, ◌++◌, ℕ, eqb, length, get_or, if◌then◌else◌}
 use Rattle.laws.specs.Loops.{join_to}
 use Rattle.lent_bytes.specs.Numbers.{one, two, four}
 use Rattle.lent_bytes.specs.Writing.{stored}

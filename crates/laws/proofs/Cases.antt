@@ -1,4 +1,5 @@
 -- Laws of tests: case analysis, choices, conjunctions, and the first of several numbered tests. Assumes nothing.
+use Rattle.std.specs.Prelude.{if◌then◌else◌}
 use mathlib.Core.Path.{◌≡◌, refl, sym, ◌∙◌}
 use mathlib.Core.Bool.{Bool, true, false, ◌&&◌, true≢false}
 use mathlib.Core.List.Memᴰ
@@ -9,7 +10,15 @@ use Prim.Native.Nat.{ℕ}
 use native.Mathlib.Omega.{arith}
 use lib.Dec.{eqb}
 use borrow.Author.Tests.{eqb-true, eqb-false}
-use Rattle.laws.specs.Tests.{if◌then◌else◌, ◌or_else◌, first_of, without}
+use Rattle.laws.specs.Tests.{◌or_else◌, first_of, without}
+
+-- the library's choice is between values of a type of `Type 0`
+module _ {C : Type 0} where
+  pub if_yes : (b : Bool) (x y : C) → b ≡ true → (if b then x else y) ≡ x
+  if_yes b x y e = rw e
+
+  pub if_no : (b : Bool) (x y : C) → b ≡ false → (if b then x else y) ≡ y
+  if_no b x y e = rw e
 
 module _ {ℓ} {C : Type ℓ} where
   -- case on a test, keeping its equation
@@ -20,12 +29,6 @@ module _ {ℓ} {C : Type ℓ} where
   -- no test holds and fails
   pub holds_fails : {b : Bool} → b ≡ true → b ≡ false → C
   holds_fails p q = absurd (true≢false (sym p ∙ q))
-
-  pub if_yes : (b : Bool) (x y : C) → b ≡ true → (if b then x else y) ≡ x
-  if_yes b x y e = rw e
-
-  pub if_no : (b : Bool) (x y : C) → b ≡ false → (if b then x else y) ≡ y
-  if_no b x y e = rw e
 
   -- nothing is none and some
   pub none_some {κ} : {A : Type κ} {a : A} → none ≡ some a → C

@@ -1,4 +1,5 @@
 -- Laws of lists that the kit lacks: a store seen by cases, in one list and in two, what it leaves, and a list of one value. Assumes nothing.
+use Rattle.std.specs.Prelude.{if◌then◌else◌}
 use mathlib.Core.Path.{◌≡◌, refl, ap}
 use mathlib.Core.List.{List, [], ◌∷◌}
 use mathlib.Core.Logic.{◌⊎◌, inl, inr, ⊎_elim}
@@ -8,10 +9,9 @@ use lib.Dec.{eqb}
 use lib.ListN.{length, get_or, set, replicate}
 use lib.Seq.{get_or-set_same, get_or-set_other}
 use borrow.Author.Tests.{eqb-true, eqb-false}
-use Rattle.laws.specs.Tests.{if◌then◌else◌}
 use Rattle.laws.proofs.Cases.{split}
 
-module _ {ℓ} {A : Type ℓ} where
+module _ {A : Type 0} where
   -- after a store inside the list
   pub get_d_set : (l : List A) (i j : ℕ) (a d : A) → i < length l → get_or (set l i a) j d ≡ (if eqb j i then a else get_or l j d)
   get_d_set l i j a d h =
@@ -20,6 +20,7 @@ module _ {ℓ} {A : Type ℓ} where
       (λ e. rw (e, eqb-true j i e) (get_or-set_same l i a d h))
       (λ e. rw e (get_or-set_other l i j a d (eqb-false j i e)))
 
+module _ {ℓ} {A : Type ℓ} where
   -- in a list of any length a place has what was stored, or what it had
   pub store_cases : (l : List A) (t : ℕ) (x d : A) (i : ℕ) → ((i ≡ t) × (get_or (set l t x) i d ≡ x)) ⊎ (get_or (set l t x) i d ≡ get_or l i d)
   store_cases [] t x d i = inr refl

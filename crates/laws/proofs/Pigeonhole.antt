@@ -1,5 +1,6 @@
 -- The pigeonhole law in both forms: distinct numbers below n are at most n, and links among the numbers below n that end at all end within n.
 -- Assumes nothing.
+use Rattle.std.specs.Prelude.{if◌then◌else◌}
 use mathlib.Core.Path.{◌≡◌, refl, sym, ap, ◌∙◌}
 use mathlib.Core.Logic.{◌⊎◌, inl, inr, ⊎_elim}
 use Prim.Native.Nat.{ℕ, zero, suc, ◌+◌, ◌-◌, ◌<◌, ◌≤◌}
@@ -7,7 +8,6 @@ use native.Mathlib.Nat.{add-sub_of_le, zero-add, suc-add}
 use native.Mathlib.Omega.{arith}
 use lib.Dec.{eqb, ltb}
 use borrow.Author.Tests.{eqb-true, eqb-false, lt-ltb, le-ltb, ltb-true, ltb-false}
-use Rattle.laws.specs.Tests.{if◌then◌else◌}
 use Rattle.laws.specs.Links.{hop, walk, Ended, Leads}
 use Rattle.laws.proofs.Cases.{split}
 use Rattle.laws.proofs.Fold.{last_or_below}

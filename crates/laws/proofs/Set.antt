@@ -1,4 +1,5 @@
 -- Laws of `set_to`. A law named none, more, skip or done is a loop's, the value first. Assumes nothing.
+use Rattle.std.specs.Prelude.{if◌then◌else◌}
 use mathlib.Core.Path.{◌≡◌, refl, sym, ap, ap₂, ◌∙◌}
 use mathlib.Core.Logic.{◌⊎◌, inl, inr, ⊎_elim}
 use mathlib.Core.List.{List}
@@ -9,7 +10,6 @@ use lib.Dec.{ltb}
 use lib.ListN.{length, get_or, set, length-set}
 use lib.Seq.{get_or-set_same, get_or-set_other, set-get_or}
 use borrow.Author.Tests.{ltb-true, ltb-false}
-use Rattle.laws.specs.Tests.{if◌then◌else◌}
 use Rattle.laws.specs.Loops.{set_to}
 use Rattle.laws.proofs.Cases.{split}
 use Rattle.laws.proofs.Lists.{store_cases}
@@ -48,11 +48,13 @@ module _ {ℓ} {A : Type ℓ} where
       (λ (e : i < n). get_or-set_other (set_to n f xs) n i (f n) d (λ q. omega arith) ∙ set_at_lem n i f xs d e m)
       (last_or_below i n l)
 
+module _ {A : Type 0} where
   -- both at once
   pub set_cases : (n i : ℕ) (f : ℕ → A) (xs : List A) (d : A) → i < length xs → get_or (set_to n f xs) i d ≡ (if ltb i n then f i else get_or xs i d)
   set_cases n i f xs d m =
       split (ltb i n) (λ e. rw e (set_at_lem n i f xs d (ltb-true i n e) m)) (λ e. rw e (set_past n i f xs d (ltb-false i n e)))
 
+module _ {ℓ} {A : Type ℓ} where
   -- entries equal one by one
   pub set_same : (f g : ℕ → A) (n : ℕ) (xs : List A) → ((i : ℕ) → i < n → f i ≡ g i) → set_to n f xs ≡ set_to n g xs
   unfolding set_to

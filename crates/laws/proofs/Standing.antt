@@ -3,13 +3,14 @@
 -- places, one more than `top`; an item that points nowhere points to that number. Kept are: one item put into a box (`put_standing`), one taken out
 -- (`taken_standing`), said by how often each item stands in that box, which is `count_put` where a last place is filled or given up and `count_shift`
 -- where the first is given up and the others move on. Where an item does not stand a box has room: the pigeonhole law. Assumes nothing.
+use Rattle.std.specs.Prelude.{if◌then◌else◌}
 use mathlib.Core.Path.{◌≡◌, refl, sym, ap, subst, ◌∙◌}
 use mathlib.Core.Bool.{Bool, true, false, ◌&&◌}
 use Prim.Native.Nat.{ℕ, zero, suc, ◌+◌, ◌<◌, ◌≤◌}
 use native.Mathlib.Omega.{arith}
 use lib.Dec.{ltb, eqb}
 use borrow.Author.Tests.{ltb-true, ltb-false, lt-ltb, le-ltb, eqb-true, eqb-false, eq-eqb, ne_eqb}
-use Rattle.laws.specs.Tests.{if◌then◌else◌, bit}
+use Rattle.laws.specs.Tests.{bit}
 use Rattle.laws.specs.Loops.{count_to}
 use Rattle.laws.proofs.Cases.{split, holds_fails, and_both}
 use Rattle.laws.proofs.Count.{bit_le, count_ext, count_but_one, count_zero, zero_count, count_one_same}

@@ -1,6 +1,5 @@
 -- Following links among the numbers below n: x is linked to next x where that is below n, and ends where it is not. Assumes nothing.
-use Rattle.std.specs.Prelude.{◌≡◌, ℕ, zero, suc, ◌<◌, ◌≤◌, ltb}
-use Rattle.laws.specs.Tests.{if◌then◌else◌}
+use Rattle.std.specs.Prelude.{◌≡◌, ℕ, zero, suc, ◌<◌, ◌≤◌, ltb, if◌then◌else◌}
 
 -- one link on, or x itself where it ends
 unfoldable pub hop : ℕ → (ℕ → ℕ) → ℕ → ℕ

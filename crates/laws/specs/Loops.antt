@@ -1,7 +1,7 @@
 -- What a loop that counts up computes, by recursion on the number of turns done, so that a turn of the loop is the definition itself.
 -- Each goes over an index function, never over a list. Assumes nothing.
-use Rattle.std.specs.Prelude.{Bool, true, ◌&&◌, List, [], ◌++◌, ℕ, zero, suc, ◌+◌, ltb, set, replicate}
-use Rattle.laws.specs.Tests.{if◌then◌else◌, bit}
+use Rattle.std.specs.Prelude.{Bool, true, ◌&&◌, List, [], ◌++◌, ℕ, zero, suc, ◌+◌, ltb, set, replicate, if◌then◌else◌}
+use Rattle.laws.specs.Tests.{bit}
 
 -- how many of p 0 .. p (n - 1) hold
 unfoldable pub count_to : ℕ → (ℕ → Bool) → ℕ

@@ -1,16 +1,11 @@
 -- Tests as the definitions write them: choices, connectives, and the first of several numbered tests that applies.
 -- `&&`, `||` and `not` are the library's. Assumes nothing.
-use Rattle.std.specs.Prelude.{Bool, true, false, not, List, [], ◌∷◌, ℕ, eqb}
+use Rattle.std.specs.Prelude.{Bool, true, false, not, List, [], ◌∷◌, ℕ, eqb, if◌then◌else◌}
 use Rattle.std.proofs.Math.Option.{Option, none, some}
 
-infixr 20 if◌then◌else◌
 infixr 25 ◌implies◌
 infix 28 ◌iff◌
 infixr 15 ◌when◌or◌
-abbrev pub if◌then◌else◌ {ℓ} : {A : Type ℓ} → Bool → A → A → A
-if true then x else y = x
-if false then x else y = y
-
 -- where a holds, b does
 abbrev pub ◌implies◌ : Bool → Bool → Bool
 true implies b = b

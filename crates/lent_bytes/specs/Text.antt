@@ -1,9 +1,8 @@
 -- Text as bytes, and numbers in decimal. Assumes nothing.
-use Rattle.std.specs.Prelude.{List, [], ◌∷◌, ◌++◌, ℕ, zero, suc, ◌+◌, ◌/◌, ◌%◌, ltb}
+use Rattle.std.specs.Prelude.{List, [], ◌∷◌, ◌++◌, ℕ, zero, suc, ◌+◌, ◌/◌, ◌%◌, ltb, if◌then◌else◌}
 use Prim.Native.Char.{code}
 use Prim.Native.String.{String}
 use Prim.Native.String as string
-use Rattle.laws.specs.Tests.{if◌then◌else◌}
 
 -- a text's characters as bytes (all texts here are ASCII)
 unfoldable pub bytes : String → List ℕ

@@ -1,5 +1,6 @@
 -- The table's stages: the ways out of the counts, and what the loop over the entries keeps: the part that is read is not refused, and the text from
 -- here is the text from the table's start. Assumes nothing.
+use Rattle.std.specs.Prelude.{if◌then◌else◌}
 use mathlib.Core.Path.{◌≡◌, refl, sym, ap, ◌∙◌}
 use mathlib.Core.Bool.{true}
 use mathlib.Core.List.{List}
@@ -10,7 +11,6 @@ use native.Mathlib.Omega.{arith}
 use lib.Dec.{eqb}
 use lib.ListN.{length, set, replicate}
 use borrow.Author.Tests.{eq-eqb, ne_eqb}
-use Rattle.laws.specs.Tests.{if◌then◌else◌}
 use Rattle.model.specs.declared.Entry.{Entry}
 use Rattle.model.specs.declared.Table.{Table}
 use Rattle.model.specs.declared.State.{State}

@@ -1,7 +1,6 @@
 -- What `replay` answers and what it leaves in the buffer lent to it. Assumes nothing.
-use Rattle.std.specs.Prelude.{List, ℕ, ◌+◌, ◌*◌, leb, length}
+use Rattle.std.specs.Prelude.{List, ℕ, ◌+◌, ◌*◌, leb, length, if◌then◌else◌}
 use Rattle.std.proofs.Math.Option.{none}
-use Rattle.laws.specs.Tests.{if◌then◌else◌}
 use Rattle.lent_bytes.specs.Writing.{stored}
 use Rattle.model.specs.Said.{Saying, ok, refused}
 use Rattle.trace.specs.Order.{file_limit}

@@ -1,11 +1,12 @@
 -- A state is sound exactly when it breaks none of the clauses (specs/Clauses): no clause is missing there, and none is more than soundness says.
 -- A test that has parts holds of all numbers where each part does. Assumes nothing.
+use Rattle.std.specs.Prelude.{if◌then◌else◌}
 use mathlib.Core.Path.{◌≡◌, refl, sym, ap, ◌∙◌}
 use mathlib.Core.Bool.{Bool, true, false, ◌&&◌, ◌||◌, and-true, and_assoc}
 use mathlib.Core.List.{List, [], ◌∷◌}
 use Prim.Native.Nat.{ℕ, zero, suc}
 use lib.Dec.{eqb}
-use Rattle.laws.specs.Tests.{if◌then◌else◌, ◌implies◌}
+use Rattle.laws.specs.Tests.{◌implies◌}
 use Rattle.laws.specs.Loops.{all_to}
 use Rattle.model.specs.declared.State.{State}
 use Rattle.model.specs.State.{places, task_at, resource_at, here, present, declares, awaited, owner_no}

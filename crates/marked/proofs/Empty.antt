@@ -1,6 +1,7 @@
 -- The empty versions that the contracts have to shut out do not meet them, each told apart by an example. Of a step: `ok 0` for every event, a
 -- refusal for every event, the state handed back untouched. Of a replay: one that steps the first event and tells its answer again for the rest. Of
 -- the bound: one that invents its weighings, or the number at which they exceed the allowance. Assumes nothing.
+use Rattle.std.specs.Prelude.{if◌then◌else◌}
 use mathlib.Core.Path.{◌≡◌, refl, sym, ap, ◌∙◌}
 use mathlib.Core.List.{List, [], ◌∷◌, ◌++◌}
 use mathlib.Core.Option.{Option, none, some}
@@ -9,7 +10,6 @@ use native.Mathlib.Omega.{arith}
 use lib.Dec.{ltb}
 use lib.ListN.{get_or, drop}
 use borrow.Author.Tests.{ltb-true, ltb-false}
-use Rattle.laws.specs.Tests.{if◌then◌else◌}
 use Rattle.laws.proofs.Cases.{split, none_some}
 use Rattle.lent_bytes.specs.Text.{bytes, digits, decimal}
 use Rattle.model.specs.declared.State.{State}

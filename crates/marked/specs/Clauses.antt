@@ -1,7 +1,7 @@
 -- The clauses of soundness (rule 4), each apart and as fine as they can be told: an example can then say which one a state breaks, and that it keeps
 -- all others. They are `model.Sound` taken to pieces; `proofs/Clauses` has that a state is sound exactly when it breaks none. Assumes nothing.
-use Rattle.std.specs.Prelude.{Bool, true, false, List, [], ◌∷◌, ℕ, ◌+◌, leb, eqb}
-use Rattle.laws.specs.Tests.{if◌then◌else◌, ◌implies◌}
+use Rattle.std.specs.Prelude.{Bool, true, false, List, [], ◌∷◌, ℕ, ◌+◌, leb, eqb, if◌then◌else◌}
+use Rattle.laws.specs.Tests.{◌implies◌}
 use Rattle.laws.specs.Loops.{all_to}
 use Rattle.model.specs.declared.State.{State}
 use Rattle.model.specs.State.{places, server_at, task_at, resource_at, declares, awaited, owner_no}

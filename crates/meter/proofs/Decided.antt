@@ -1,6 +1,7 @@
 -- What the walk over lent rows decides and stores is the metering of rule 9: the answer, the rows that are written, and that a refusal writes none.
 -- In a sound state the numbers in use are those below the tasks, so that the first rows, as many as tasks, are the rows of the numbers in use.
 -- Assumes nothing.
+use Rattle.std.specs.Prelude.{if◌then◌else◌}
 use mathlib.Core.Path.{◌≡◌, refl, sym, ◌∙◌}
 use mathlib.Core.Bool.{true, false, not}
 use mathlib.Core.List.{List}
@@ -11,7 +12,7 @@ use lib.Dec.{ltb}
 use lib.ListN.{length, get_or}
 use lib.Seq.{ext_get_or}
 use borrow.Author.Tests.{lt-ltb, le-ltb, ltb-true, ltb-false, not-false}
-use Rattle.laws.specs.Tests.{if◌then◌else◌, first_of}
+use Rattle.laws.specs.Tests.{first_of}
 use Rattle.laws.specs.Loops.{count_to, set_to}
 use Rattle.laws.proofs.Cases.{split, none_fails, none_later}
 use Rattle.laws.proofs.Count.{count_ext}

@@ -1,8 +1,7 @@
 -- What metering decides before it writes a row: its answer, which depends on how many rows are lent and not on what they hold, and how many rows that
 -- answer says are written. Assumes nothing.
 use Rattle.std.proofs.Math.Option.{Option, none, some}
-use Rattle.std.specs.Prelude.{ℕ, ltb}
-use Rattle.laws.specs.Tests.{if◌then◌else◌}
+use Rattle.std.specs.Prelude.{ℕ, ltb, if◌then◌else◌}
 use Rattle.laws.specs.Loops.{count_to}
 use Rattle.model.specs.declared.State.{State}
 use Rattle.model.specs.declared.Answer.{Answer}

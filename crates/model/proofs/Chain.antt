@@ -1,12 +1,12 @@
 -- Laws of chains: links stay among the numbers in use, the chain end is where the links lead, and the sixteen tasks of its fuel never cut it:
 -- that no chain closes is decided by the test, and there the chain end is that of rule 3.2 (`end_is`). Assumes nothing.
+use Rattle.std.specs.Prelude.{if◌then◌else◌}
 use mathlib.Core.Path.{◌≡◌, refl, sym, ◌∙◌}
 use mathlib.Core.Bool.{true, false, ◌&&◌}
 use Prim.Native.Nat.{ℕ, zero, suc, ◌<◌, ◌≤◌}
 use native.Mathlib.Omega.{arith}
 use lib.Dec.{ltb}
 use borrow.Author.Tests.{ltb-true, ltb-false, le-ltb}
-use Rattle.laws.specs.Tests.{if◌then◌else◌}
 use Rattle.laws.specs.Links.{hop, walk, Leads}
 use Rattle.laws.proofs.Cases.{split, and_left, and_right}
 use Rattle.laws.proofs.Pigeonhole.{walk_ended, walk_linked, walk_more, ended_open, closed_or_ended}

@@ -1,7 +1,6 @@
 -- What each event changes, before rule H: rules 7.1 to 7.10, and the accounts of rule 8.1. A new entry is a function of its number and of the state
 -- before, so that entries not in use stay as they are (rule 1.7). Assumes nothing.
-use Rattle.std.specs.Prelude.{Bool, not, ◌&&◌, ◌||◌, List, ℕ, ◌+◌, ◌-◌, eqb, get_or, set}
-use Rattle.laws.specs.Tests.{if◌then◌else◌}
+use Rattle.std.specs.Prelude.{Bool, not, ◌&&◌, ◌||◌, List, ℕ, ◌+◌, ◌-◌, eqb, get_or, set, if◌then◌else◌}
 use Rattle.laws.specs.Loops.{set_to}
 use Rattle.model.specs.declared.TaskNo.{TaskNo}
 use Rattle.model.specs.declared.Phase.{Phase}

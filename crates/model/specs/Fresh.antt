@@ -1,7 +1,7 @@
 -- The state from which a table starts, and its refusals 19 to 21: rules 5.1 to 5.5. Assumes nothing.
-use Rattle.std.specs.Prelude.{not, ℕ, ltb, get_or, replicate}
+use Rattle.std.specs.Prelude.{not, ℕ, ltb, get_or, replicate, if◌then◌else◌}
 use Rattle.std.proofs.Math.Option.{Option, none, some}
-use Rattle.laws.specs.Tests.{if◌then◌else◌, ◌when◌or◌, accepted, first_of, ◌or_else◌}
+use Rattle.laws.specs.Tests.{◌when◌or◌, accepted, first_of, ◌or_else◌}
 use Rattle.laws.specs.Loops.{set_to, fold_to}
 use Rattle.model.specs.declared.Phase.TheVariants.{Idle}
 use Rattle.model.specs.declared.Mode.TheVariants.{Suspended}

@@ -1,6 +1,5 @@
 -- Groups of tasks, between which order does not matter: rules 11.1 and 11.2. Assumes nothing.
-use Rattle.std.specs.Prelude.{◌≡◌, Bool, true, false, not, ◌&&◌, ◌||◌, List, ℕ, zero, suc, get_or, set, replicate}
-use Rattle.laws.specs.Tests.{if◌then◌else◌}
+use Rattle.std.specs.Prelude.{◌≡◌, Bool, true, false, not, ◌&&◌, ◌||◌, List, ℕ, zero, suc, get_or, set, replicate, if◌then◌else◌}
 use Rattle.laws.specs.Loops.{all_to, set_to, best_to}
 use Rattle.reordering.specs.Order.{Kind, time, group}
 use Rattle.model.specs.declared.State.{State}

@@ -1,7 +1,7 @@
 -- Meter rows, which a caller lends: rules 9.1 and 9.2. Assumes nothing.
-use Rattle.std.specs.Prelude.{not, List, ℕ, ltb, length, get_or}
+use Rattle.std.specs.Prelude.{not, List, ℕ, ltb, length, get_or, if◌then◌else◌}
 use Rattle.std.proofs.Math.Option.{Option, none, some}
-use Rattle.laws.specs.Tests.{if◌then◌else◌, ◌when◌or◌, accepted, first_of}
+use Rattle.laws.specs.Tests.{◌when◌or◌, accepted, first_of}
 use Rattle.laws.specs.Loops.{count_to, set_to}
 use Rattle.model.specs.declared.Phase.TheVariants.{Idle}
 use Rattle.model.specs.declared.State.{State}

@@ -1,6 +1,5 @@
 -- Who executes after an event: rule H, in the three steps of rules 6.1 to 6.3. Assumes nothing.
-use Rattle.std.specs.Prelude.{List, ℕ, ltb}
-use Rattle.laws.specs.Tests.{if◌then◌else◌}
+use Rattle.std.specs.Prelude.{List, ℕ, ltb, if◌then◌else◌}
 use Rattle.laws.specs.Loops.{set_to, best_to}
 use Rattle.model.specs.declared.Runs.{Runs}
 use Rattle.model.specs.declared.Runs.TheVariants.{Nowhere, In}

@@ -1,7 +1,6 @@
 -- The state's entries, which numbers are in use, the chain of waiting, what a server serves and who executes.
 -- Rules 1.2, 1.3, 1.6, 1.7, 2.1 to 2.5 and 3.1 to 3.4. Assumes nothing.
-use Rattle.std.specs.Prelude.{Bool, true, false, ◌&&◌, [], ℕ, zero, suc, ◌/◌, ◌%◌, ◌^◌, ltb, eqb, get_or}
-use Rattle.laws.specs.Tests.{if◌then◌else◌}
+use Rattle.std.specs.Prelude.{Bool, true, false, ◌&&◌, [], ℕ, zero, suc, ◌/◌, ◌%◌, ◌^◌, ltb, eqb, get_or, if◌then◌else◌}
 use Rattle.model.specs.declared.Phase.{Phase}
 use Rattle.model.specs.declared.Phase.TheVariants.{Idle, Active, Running, Recharging}
 use Rattle.model.specs.declared.Mode.{Mode}

@@ -1,8 +1,8 @@
 -- One step: refusal, change, rule H, answer. Rules 10.1 to 10.4, and the answers of rules 7.1 to 7.10.
 -- `free` is the machine of the same rules without the tests for 1 and 8, through which the theorems on order go. Assumes nothing.
-use Rattle.std.specs.Prelude.{Bool, not, ◌&&◌, ◌||◌, List, ℕ, ◌+◌, ◌-◌, ltb, leb, eqb, get_or}
+use Rattle.std.specs.Prelude.{Bool, not, ◌&&◌, ◌||◌, List, ℕ, ◌+◌, ◌-◌, ltb, leb, eqb, get_or, if◌then◌else◌}
 use Rattle.std.proofs.Math.Option.{Option, none, some}
-use Rattle.laws.specs.Tests.{if◌then◌else◌, bit, ◌implies◌, ◌when◌or◌, accepted, first_of, without}
+use Rattle.laws.specs.Tests.{bit, ◌implies◌, ◌when◌or◌, accepted, first_of, without}
 use Rattle.laws.specs.Loops.{count_to}
 use Rattle.model.specs.declared.Mode.{Mode}
 use Rattle.model.specs.declared.Task.{Task}

@@ -1,6 +1,7 @@
 -- A small machine with the traits that matter here: tasks in groups, at most one of a group running, so many processors, time that answers a
 -- count, and refusals 1 (more run than there are processors) and 8 (no processor for a dispatch). Refusal 2 is for no such task, 7 for a group
 -- of which a task runs already, 9 for a task that does not run, 12 for a task that would pass the limit. Assumes nothing.
+use Rattle.std.specs.Prelude.{if◌then◌else◌}
 use mathlib.Core.Path.{◌≡◌}
 use mathlib.Core.Bool.{Bool, true, false, not, ◌&&◌, ◌||◌}
 use mathlib.Core.List.{List}
@@ -8,7 +9,7 @@ use mathlib.Core.Option.{Option, none, some}
 use Prim.Native.Nat.{ℕ, ◌+◌, ◌≤◌}
 use lib.Dec.{leb, ltb, eqb}
 use lib.ListN.{length, get_or, set, replicate}
-use Rattle.laws.specs.Tests.{if◌then◌else◌, ◌implies◌, accepted, ◌when◌or◌, first_of, without}
+use Rattle.laws.specs.Tests.{◌implies◌, accepted, ◌when◌or◌, first_of, without}
 use Rattle.laws.specs.Loops.{count_to, all_to, set_to}
 use Rattle.reordering.specs.Order.{Kind, time, group}
 use Rattle.reordering.specs.Run.{Each}

@@ -1,6 +1,5 @@
 -- What it is to reorder a list of events (rule 11.3): each group's order is kept, and nothing moves across a passage of time. Assumes nothing.
-use Rattle.std.specs.Prelude.{◌≡◌, Bool, true, List, [], ◌∷◌, ℕ, eqb}
-use Rattle.laws.specs.Tests.{if◌then◌else◌}
+use Rattle.std.specs.Prelude.{◌≡◌, Bool, true, List, [], ◌∷◌, ℕ, eqb, if◌then◌else◌}
 
 -- rule 11.2: what an event is to the order, a passage of time, or something that one group does
 pub data Kind : Type 0 where

@@ -1,5 +1,6 @@
 -- Rule H on arrays says what model/specs/RuleH.antt says, task by task; and the laws by which each loop of the code computes its array.
 -- Assumes nothing.
+use Rattle.std.specs.Prelude.{if◌then◌else◌}
 use mathlib.Core.Path.{◌≡◌, refl, sym, ap, ap₂, ◌∙◌}
 use mathlib.Core.Bool.{true, false}
 use mathlib.Core.List.{List}
@@ -10,7 +11,6 @@ use lib.Dec.{ltb, eqb}
 use lib.ListN.{length, get_or, set, replicate, length-set}
 use lib.Seq.{ext_get_or}
 use borrow.Author.Tests.{eqb-true, eqb-false, eq-eqb, ne_eqb, lt-ltb, ltb-true, ltb-false}
-use Rattle.laws.specs.Tests.{if◌then◌else◌}
 use Rattle.laws.specs.Loops.{set_to, fold_to, best_to, better_of}
 use Rattle.laws.proofs.Cases.{split, and_left}
 use Rattle.laws.proofs.Lists.{get_d_set, replicate_at}

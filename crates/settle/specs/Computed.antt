@@ -1,7 +1,6 @@
 -- How the code computes rule H: on arrays that are taken out of the states once. proofs/Settled.antt joins it to model/specs/RuleH.antt.
 -- Assumes nothing.
-use Rattle.std.specs.Prelude.{Bool, ◌&&◌, List, ℕ, ltb, eqb, get_or}
-use Rattle.laws.specs.Tests.{if◌then◌else◌}
+use Rattle.std.specs.Prelude.{Bool, ◌&&◌, List, ℕ, ltb, eqb, get_or, if◌then◌else◌}
 use Rattle.laws.specs.Loops.{set_to, best_to}
 use Rattle.model.specs.declared.TaskNo.{TaskNo}
 use Rattle.model.specs.declared.ServerNo.{ServerNo}

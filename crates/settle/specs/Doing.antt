@@ -1,7 +1,6 @@
 -- What a server is doing (rule 3.4). A number that is not in use is not running. Assumes nothing.
 use Rattle.std.proofs.Math.Option.{Option, none, some}
-use Rattle.std.specs.Prelude.{ℕ}
-use Rattle.laws.specs.Tests.{if◌then◌else◌}
+use Rattle.std.specs.Prelude.{ℕ, if◌then◌else◌}
 use Rattle.model.specs.declared.State.{State}
 use Rattle.model.specs.State.{served, running_at, executes}
 use Rattle.model.specs.Said as word

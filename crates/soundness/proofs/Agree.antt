@@ -1,12 +1,13 @@
 -- Stacks and owners, queues and waits: when every entry is its holder's and no entry stands twice, and there are as many entries as owned items,
 -- then each holder has each item once where it owns it and not at all where not; and back. Said once, for any holders and items. Assumes nothing.
+use Rattle.std.specs.Prelude.{if◌then◌else◌}
 use mathlib.Core.Path.{◌≡◌, refl, sym, ap, ◌∙◌}
 use mathlib.Core.Bool.{Bool, true, ◌&&◌}
 use Prim.Native.Nat.{ℕ, ◌<◌, ◌≤◌}
 use native.Mathlib.Omega.{arith}
 use lib.Dec.{ltb, eqb}
 use borrow.Author.Tests.{ltb-true, ltb-false, lt-ltb, eqb-true, eqb-false, eq-eqb, ne_eqb}
-use Rattle.laws.specs.Tests.{if◌then◌else◌, bit}
+use Rattle.laws.specs.Tests.{bit}
 use Rattle.laws.specs.Loops.{count_to, sum_to}
 use Rattle.laws.proofs.Cases.{split, if_yes, if_no, holds_fails, unheld_fails, and_left, and_right, and_both}
 use Rattle.laws.proofs.Count.{count_sum, count_zero, count_some, count_once, count_one_same, bit_le}

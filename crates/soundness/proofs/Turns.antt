@@ -1,4 +1,5 @@
 -- What the code's loops cite: what a turn reads, and the two ways out of a test of all. Assumes nothing.
+use Rattle.std.specs.Prelude.{if◌then◌else◌}
 use mathlib.Core.Path.{◌≡◌, refl, sym, ap, ap₂, ◌∙◌}
 use mathlib.Core.Bool.{Bool, true, false, ◌&&◌}
 use mathlib.Core.List.{List}
@@ -8,7 +9,7 @@ use native.Mathlib.Omega.{arith}
 use lib.Dec.{leb, eqb}
 use lib.ListN.{get_or}
 use borrow.Author.Tests.{le-leb, lt-leb, eq-eqb, ne_eqb}
-use Rattle.laws.specs.Tests.{if◌then◌else◌, ◌implies◌}
+use Rattle.laws.specs.Tests.{◌implies◌}
 use Rattle.laws.specs.Loops.{all_to, sum_to}
 use Rattle.laws.proofs.Cases.{split, if_yes, if_no}
 use Rattle.laws.proofs.All.{all_none, all_more, all_fails, all_done}

@@ -1,8 +1,8 @@
 -- Soundness as the code tests it: sizes, then tasks, resources and servers, each group in one pass. Where the definition asks of each task and each
 -- resource whether a stack or queue agrees, these ask of each entry, and compare totals; proofs/Same.antt says that it comes to the same.
 -- Assumes nothing.
-use Rattle.std.specs.Prelude.{Bool, true, not, ◌&&◌, List, ℕ, ◌+◌, ltb, leb, eqb, get_or}
-use Rattle.laws.specs.Tests.{if◌then◌else◌, ◌iff◌}
+use Rattle.std.specs.Prelude.{Bool, true, not, ◌&&◌, List, ℕ, ◌+◌, ltb, leb, eqb, get_or, if◌then◌else◌}
+use Rattle.laws.specs.Tests.{◌iff◌}
 use Rattle.laws.specs.Loops.{count_to, all_to, sum_to}
 use Rattle.model.specs.declared.Phase.{Phase}
 use Rattle.model.specs.declared.Phase.TheVariants.{Idle, Active, Running, Recharging}

@@ -1,4 +1,5 @@
 -- The answers from what the code reads: what the change has told, a task after rule H, a chain end. Assumes nothing.
+use Rattle.std.specs.Prelude.{if◌then◌else◌}
 use mathlib.Core.Path.{◌≡◌, refl, sym, ◌∙◌, ap}
 use mathlib.Core.Bool.{Bool, true, false, ◌&&◌}
 use mathlib.Core.List.{List}
@@ -7,7 +8,7 @@ use lib.Dec.{ltb, eqb}
 use lib.ListN.{length, get_or-eq_default}
 use lib.Seq.{get_or-set_same}
 use borrow.Author.Tests.{ltb-true, ltb-false}
-use Rattle.laws.specs.Tests.{if◌then◌else◌, bit}
+use Rattle.laws.specs.Tests.{bit}
 use Rattle.laws.proofs.Cases.{split, holds_fails, and_both}
 use Rattle.model.specs.declared.TaskNo.{TaskNo}
 use Rattle.model.specs.declared.ServerNo.{ServerNo}

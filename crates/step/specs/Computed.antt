@@ -1,7 +1,6 @@
 -- How the code answers: from what the change has told, the tasks after rule H and the chain ends. Only dispatch and preempt look at a task.
 -- Assumes nothing.
-use Rattle.std.specs.Prelude.{List, ℕ, ◌<◌, eqb, get_or}
-use Rattle.laws.specs.Tests.{if◌then◌else◌}
+use Rattle.std.specs.Prelude.{List, ℕ, ◌<◌, eqb, get_or, if◌then◌else◌}
 use Rattle.model.specs.declared.TaskNo.{TaskNo}
 use Rattle.model.specs.declared.Task.{Task}
 use Rattle.model.specs.declared.Event.{Event}

@@ -1,7 +1,6 @@
 // The answer to an event that was not refused. Its change tells it, but for dispatch and preempt, which ask where the task that the server serves
 // executes after rule H. Assumes that the numbers are in use.
-ghost use Rattle.std.specs.Prelude.{◌≡◌, ◌<◌, eqb};
-ghost use Rattle.laws.specs.Tests.{if◌then◌else◌};
+ghost use Rattle.std.specs.Prelude.{◌≡◌, ◌<◌, eqb, if◌then◌else◌};
 ghost use Rattle.model.specs.State.{placed, executor_number};
 ghost use Rattle.step.specs.Computed.{answer_by, Within};
 

@@ -1,6 +1,6 @@
 -- A grant and a release with nobody waiting: nothing but the resource and the stack changes. Assumes nothing.
+use Rattle.std.specs.Prelude.{if◌then◌else◌}
 use Rattle.theory.proofs.Kit.{◌≡◌, refl, ap, ◌∙◌, true, false, ℕ, eqb, eq-eqb, ne_eqb}
-use Rattle.laws.specs.Tests.{if◌then◌else◌}
 use Rattle.theory.proofs.Declared.{Nobody, By, Server, Task, Resource, State, Event, Lock, Unlock}
 use Rattle.model.specs.State.{task_at, resource_at, here, present, running, owned}
 use Rattle.model.specs.Events.{pushed, popped, with_owner, granted, locked, freed, unlocked, changed}

@@ -1,7 +1,8 @@
 -- Unlock with a queue: what reached the releaser through the resource goes to the heir, the rest stays, and who executes. Assumes nothing.
+use Rattle.std.specs.Prelude.{if◌then◌else◌}
 use Rattle.theory.proofs.Kit.{◌≡◌, refl, sym, ap, ◌∙◌, Bool, true, false, ◌&&◌, ◌⊎◌, inl, inr, ⊎_elim, ℕ, zero, suc, ◌<◌, arith, ltb, eqb, get_or, eqb-true, eq-eqb, ne_eqb}
 use borrow.Author.Tests.{le-ltb}
-use Rattle.laws.specs.Tests.{if◌then◌else◌, bit}
+use Rattle.laws.specs.Tests.{bit}
 use Rattle.laws.specs.Loops.{count_to}
 use Rattle.laws.specs.Links.{Leads}
 use Rattle.laws.proofs.Cases.{split, holds_fails, unheld_fails, and_left, and_right, and_both}

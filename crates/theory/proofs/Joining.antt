@@ -1,6 +1,6 @@
 -- Lock of an owned resource: what ended at the locker ends where the owner's chain ends, and who executes there. Assumes nothing.
+use Rattle.std.specs.Prelude.{if◌then◌else◌}
 use Rattle.theory.proofs.Kit.{◌≡◌, refl, sym, ap, ◌∙◌, true, false, ◌⊎◌, inl, inr, ⊎_elim, ℕ, ◌≤◌, eqb, eqb-true, eqb-false, eq-eqb, ne_eqb}
-use Rattle.laws.specs.Tests.{if◌then◌else◌}
 use Rattle.laws.proofs.Cases.{split, holds_fails, unheld_fails}
 use Rattle.theory.proofs.Declared.{Idle, Recharging, Waiting, Server, Task, Resource, State, Event, Lock}
 use Rattle.model.specs.State.{places, server_at, task_at, resource_at, here, running, recharging, suspended, owned, owner_no, next, served, running_at, running_for, executor_of, executing}

@@ -1,8 +1,9 @@
 -- Processors: a server that runs after an event's change ran before it or is the one that the event dispatches (`ran_by`, from what an event can make
 -- of a server, Frames.antt). So the layer chooses nobody (`dispatch_only`), and no more servers are Running than there are processors (`seated_after`):
 -- only a dispatch adds one, and it is refused where all are taken. Rule H changes no phase. Assumes nothing.
+use Rattle.std.specs.Prelude.{if◌then◌else◌}
 use Rattle.theory.proofs.Kit.{◌≡◌, refl, sym, ap, ◌∙◌, Bool, true, false, ◌&&◌, ◌⊎◌, inl, inr, ⊎_elim, none, ℕ, ◌<◌, ◌≤◌, arith, get_or-set_other, leb-false}
-use Rattle.laws.specs.Tests.{if◌then◌else◌, first_of}
+use Rattle.laws.specs.Tests.{first_of}
 use Rattle.laws.specs.Loops.{count_to}
 use Rattle.laws.proofs.Cases.{holds_fails, and_left, and_right, and_both, none_fails, none_later}
 use Rattle.laws.proofs.Count.{bit_le, count_ext, count_mono, count_but_one}

@@ -1,6 +1,6 @@
 -- Suspend and wake: the whole set rests, the whole set is Active again. Assumes nothing.
+use Rattle.std.specs.Prelude.{if◌then◌else◌}
 use Rattle.theory.proofs.Kit.{◌≡◌, refl, sym, ap, ◌∙◌, true, false, ◌||◌, inl, ℕ, arith, eqb, eqb-true, eqb-false, eq-eqb, ne_eqb}
-use Rattle.laws.specs.Tests.{if◌then◌else◌}
 use Rattle.laws.proofs.Cases.{split, holds_fails, unheld_fails, unfailed_holds}
 use Rattle.laws.proofs.Lists.{get_d_set}
 use Rattle.theory.proofs.Declared.{Phase, Idle, Active, Running, Recharging, Suspended, Ready, Server, Task, State, Event, Wake, Suspend}

@@ -2,8 +2,9 @@
 -- touch them: a resource taken or given up, a task that enters a queue (that the first leaves it is in Passing.antt). A stack and a queue are one
 -- thing, items that stand once in the box that they point to, so each move is one of two laws (laws/proofs/Standing.antt, with model/proofs/Boxes.antt
 -- for the one box that changes). Assumes nothing.
+use Rattle.std.specs.Prelude.{if◌then◌else◌}
 use Rattle.theory.proofs.Kit.{◌≡◌, refl, sym, ap, ◌∙◌, true, false, ℕ, ◌+◌, ◌<◌, arith, eqb, get_or, get_or-set_same, get_or-set_other, eqb-true, eqb-false}
-use Rattle.laws.specs.Tests.{if◌then◌else◌, bit}
+use Rattle.laws.specs.Tests.{bit}
 use Rattle.laws.proofs.Cases.{split}
 use Rattle.laws.proofs.Lists.{set_keeps}
 use Rattle.laws.proofs.Standing.{same_standing, put_standing, taken_standing}

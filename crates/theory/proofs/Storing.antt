@@ -1,4 +1,5 @@
 -- An event that stores one server: dispatch, preempt and recharge. The rest stays, and the chain ends. Assumes nothing.
+use Rattle.std.specs.Prelude.{if◌then◌else◌}
 use Rattle.theory.proofs.Kit.{◌≡◌, refl, ap, ◌∙◌, true, ℕ, arith, eqb, eqb-true, eqb-false, eq-eqb, ne_eqb}
 use Rattle.laws.proofs.Cases.{split}
 use Rattle.laws.proofs.Lists.{get_d_set}
@@ -10,7 +11,6 @@ use Rattle.model.proofs.Chain.{here_below}
 use Rattle.theory.specs.Rules.{Rest, Only, Nothing}
 use Rattle.theory.proofs.Steps.{Quiet, after_server, rest_by, ends_stay, same_for, executor_same}
 use Rattle.theory.proofs.Executing.{Way}
-use Rattle.laws.specs.Tests.{if◌then◌else◌}
 
 module _ (st : State) (e : Event) (w : Way st e) (s : ℕ) (x : Server) (used : here st s ≡ true) (is : changed st e ≡ with_server s x st) where
   abbrev after : State

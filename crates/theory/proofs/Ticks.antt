@@ -1,9 +1,10 @@
 -- Conservation: what servers executed and lent is what tasks executed, and both are the ticks of the run. Each task that executes has one server that
 -- executes it, so that both are counted alike; and of one task what its record grew by is the ticks for which servers executed it. Assumes nothing.
+use Rattle.std.specs.Prelude.{if◌then◌else◌}
 use Rattle.theory.proofs.Kit.{◌≡◌, refl, sym, ap, ◌∙◌, Bool, true, false, not, ◌&&◌, List, [], ◌∷◌, ℕ, zero, suc, ◌+◌, ◌<◌, ◌≤◌, arith, eqb, eq-eqb, ne_eqb}
 use Prim.Native.Nat.{◌*◌}
 use native.Mathlib.Nat.{mul-add, mul-one, mul-zero}
-use Rattle.laws.specs.Tests.{if◌then◌else◌, bit}
+use Rattle.laws.specs.Tests.{bit}
 use Rattle.laws.specs.Loops.{count_to, sum_to}
 use Rattle.laws.proofs.Cases.{split, holds_fails, unheld_fails, and_left}
 use Rattle.laws.proofs.Count.{bit_le, count_sum, count_zero, count_but_one}

@@ -2,8 +2,9 @@
 -- What is in use is a group, for any labels that give it the number 0: all that soundness asks, each test, the change, rule H and the answer read that
 -- group alone, and most of this is what Locality.antt and Order.antt say of a group. Only the tests and the answer that speak of all servers
 -- (no processor free, an elapse) are compared here. Assumes nothing.
+use Rattle.std.specs.Prelude.{if◌then◌else◌}
 use Rattle.theory.proofs.Kit.{◌≡◌, refl, sym, ap, ap₂, ◌∙◌, Bool, true, false, not, ◌||◌, List, ◌∷◌, ℕ, ◌+◌, arith, ltb, eqb, eq-eqb}
-use Rattle.laws.specs.Tests.{if◌then◌else◌, ◌when◌or◌, accepted, first_of, without}
+use Rattle.laws.specs.Tests.{◌when◌or◌, accepted, first_of, without}
 use Rattle.laws.proofs.Cases.{split, holds_fails, unheld_fails, if_yes, first_yes}
 use Rattle.laws.proofs.Count.{count_ext}
 use Rattle.laws.proofs.All.{all_ext}

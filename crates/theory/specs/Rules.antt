@@ -2,8 +2,7 @@
 -- and the paper's rules (document 004, section 5.1), each beside our rule's number and with our rule's difference where there is one. Each fixes the
 -- whole next state: `Rest` says once what stays, and beside it stand the entries that change, the chain ends and the executors. What is not in use
 -- stays in every event (promises.PastKept). Assumes nothing.
-use Rattle.std.specs.Prelude.{◌≡◌, true, false, ◌⊎◌, ℕ, suc, ◌+◌, ◌-◌, ◌<◌, ◌≤◌}
-use Rattle.laws.specs.Tests.{if◌then◌else◌}
+use Rattle.std.specs.Prelude.{◌≡◌, true, false, ◌⊎◌, ℕ, suc, ◌+◌, ◌-◌, ◌<◌, ◌≤◌, if◌then◌else◌}
 use Rattle.laws.specs.Links.{Leads}
 use Rattle.model.specs.declared.Phase.TheVariants.{Idle, Active, Running, Recharging}
 use Rattle.model.specs.declared.Mode.TheVariants.{Suspended, Ready, Waiting}

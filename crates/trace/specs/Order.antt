@@ -1,7 +1,6 @@
 -- The order of a trace (rule 13.4), and the refusals that a record meets where it stands. Assumes nothing.
 use Rattle.std.proofs.Math.Option.{Option, none, some}
-use Rattle.std.specs.Prelude.{ℕ, ◌+◌, eqb, replicate, set}
-use Rattle.laws.specs.Tests.{if◌then◌else◌}
+use Rattle.std.specs.Prelude.{ℕ, ◌+◌, eqb, replicate, set, if◌then◌else◌}
 use Rattle.model.specs.declared.Entry.{Entry}
 use Rattle.model.specs.declared.Table.{Table}
 use Rattle.model.specs.State.{places}

@@ -1,7 +1,7 @@
 -- What reading a record at a place of a trace gives: rules 13.1 to 13.5 and 13.8. Assumes nothing.
-use Rattle.std.specs.Prelude.{Bool, not, ◌&&◌, ◌||◌, List, [], ◌∷◌, ℕ, zero, suc, ◌+◌, ◌-◌, ltb, leb, eqb, length}
+use Rattle.std.specs.Prelude.{Bool, not, ◌&&◌, ◌||◌, List, [], ◌∷◌, ℕ, zero, suc, ◌+◌, ◌-◌, ltb, leb, eqb, length, if◌then◌else◌}
 use Rattle.std.proofs.Math.Option.{Option, none, some}
-use Rattle.laws.specs.Tests.{if◌then◌else◌, ◌when◌or◌, accepted, first_of}
+use Rattle.laws.specs.Tests.{◌when◌or◌, accepted, first_of}
 use Rattle.lent_bytes.specs.Numbers.{two_bytes, four_bytes}
 use Rattle.model.specs.declared.Entry.{Entry}
 use Rattle.model.specs.declared.Event.{Event}

@@ -1,11 +1,11 @@
 -- Bytes past the counts are neither read nor written by the exported functions (rule 1.7): calls on images that are alike in use get one answer and leave
 -- them alike, and a byte past the counts stays. That an event keeps the counts is crate `theory`'s law, and a hypothesis here. Assumes nothing.
+use Rattle.std.specs.Prelude.{if◌then◌else◌}
 use mathlib.Core.Path.{◌≡◌, refl, ap, ◌∙◌}
 use mathlib.Core.Bool.{Bool, true, false}
 use mathlib.Core.List.{List}
 use mathlib.Core.Option.{Option, none, some}
 use Prim.Native.Nat.{ℕ}
-use Rattle.laws.specs.Tests.{if◌then◌else◌}
 use Rattle.laws.proofs.Cases.{split}
 use Rattle.model.specs.declared.State.{State}
 use Rattle.model.specs.declared.Event.{Event}

@@ -1,7 +1,6 @@
 -- What each exported function answers, and what it leaves of the bytes lent to it. A refusal leaves them as they were. Assumes nothing.
-use Rattle.std.specs.Prelude.{Bool, false, List, ◌++◌, ℕ, ◌/◌, ◌%◌, ◌^◌, eqb, length, replicate}
+use Rattle.std.specs.Prelude.{Bool, false, List, ◌++◌, ℕ, ◌/◌, ◌%◌, ◌^◌, eqb, length, replicate, if◌then◌else◌}
 use Rattle.std.proofs.Math.Option.{Option, none, some}
-use Rattle.laws.specs.Tests.{if◌then◌else◌}
 use Rattle.lent_bytes.specs.Numbers.{four}
 use Rattle.model.specs.declared.Event.{Event}
 use Rattle.model.specs.declared.FreshAnswer.{FreshAnswer}

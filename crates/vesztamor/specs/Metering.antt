@@ -1,7 +1,6 @@
 -- Meter rows in lent bytes: the row of a server, which docs/STATE.md has in a table, and what the exported function answers and leaves. Assumes nothing.
-use Rattle.std.specs.Prelude.{List, ◌++◌, ℕ, ◌/◌, ◌%◌, eqb, length}
+use Rattle.std.specs.Prelude.{List, ◌++◌, ℕ, ◌/◌, ◌%◌, eqb, length, if◌then◌else◌}
 use Rattle.std.proofs.Math.Option.{Option, none, some}
-use Rattle.laws.specs.Tests.{if◌then◌else◌}
 use Rattle.laws.specs.Loops.{join_to}
 use Rattle.lent_bytes.specs.Numbers.{one, four}
 use Rattle.lent_bytes.specs.Writing.{stored}

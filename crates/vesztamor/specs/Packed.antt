@@ -1,8 +1,7 @@
 -- An answer as one number of 64 bits: its word's number in bits 56 to 63, what follows in bits 32 to 55, its number in bits 0 to 31. `unpacked` is how
 -- a caller reads it. Assumes nothing.
 use Rattle.std.proofs.Math.Option.{Option, none, some}
-use Rattle.std.specs.Prelude.{ℕ, ◌+◌, ◌*◌, ◌-◌, ◌/◌, ◌%◌, ◌^◌, ◌<◌, eqb}
-use Rattle.laws.specs.Tests.{if◌then◌else◌}
+use Rattle.std.specs.Prelude.{ℕ, ◌+◌, ◌*◌, ◌-◌, ◌/◌, ◌%◌, ◌^◌, ◌<◌, eqb, if◌then◌else◌}
 use Rattle.model.specs.Said.{Word, ok, executes, spins, granted, waits, passed, freed, refused, Saying}
 
 abbrev pub word_number : Word → ℕ

@@ -1,6 +1,5 @@
 -- The tables that a caller hands over in bytes, as docs/STATE.md has them. Assumes nothing.
-use Rattle.std.specs.Prelude.{Bool, ◌&&◌, List, ℕ, ◌+◌, ◌*◌, ltb, leb, eqb, length, replicate}
-use Rattle.laws.specs.Tests.{if◌then◌else◌}
+use Rattle.std.specs.Prelude.{Bool, ◌&&◌, List, ℕ, ◌+◌, ◌*◌, ltb, leb, eqb, length, replicate, if◌then◌else◌}
 use Rattle.laws.specs.Loops.{set_to}
 use Rattle.lent_bytes.specs.Numbers.{byte_at, two_bytes, four_bytes}
 use Rattle.model.specs.declared.Entry.{Entry}

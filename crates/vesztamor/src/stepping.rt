@@ -9,13 +9,7 @@ use image::ImageAnswer;
 use trace::kinds::{event_of, is_event};
 
 // One event: the state after it in place of the bytes, or a refusal and the bytes as they were.
-pub fn vesztamor_step(
-    state: &mut [u8],
-    kind: u16,
-    number: u16,
-    resource: u16,
-    ticks: u32,
-) -> u64
+pub fn vesztamor_step(state: &mut [u8], kind: u16, number: u16, resource: u16, ticks: u32) -> u64
     ensures answer { result ≡ packed (step_export state.old kind number resource ticks).answer }
     ensures bytes { state.new ≡ (step_export state.old kind number resource ticks).bytes }
 {
