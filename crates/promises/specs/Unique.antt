@@ -102,7 +102,7 @@ pub record EachUnique : Type 0 where
   pub running_for_lem : Unique RunningFor.Post
   pub budgets : Unique Budgets.Post
   pub refusal : Unique Refusal.Post
-  -- Meter rows. The kit gives no reading of a contract whose proof is a walk by hand, so that of `fill` is said by the crate (`Meets`).
+  -- Meter rows. The contract of `fill` is said by the crate in plain words (`Meets`).
   pub fill_rows :
       (f g : Metering) → Meets f → Meets g → (st : State) (rows : List Row) → ((f st rows).0 ≡ (g st rows).0) × ((f st rows).1 ≡ (g st rows).1)
   pub row_of : Unique RowOf.Post
