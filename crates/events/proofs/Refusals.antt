@@ -7,7 +7,7 @@ use Prim.Native.Nat.{ℕ, ◌-◌, ◌<◌, ◌≤◌}
 use native.Mathlib.Omega.{arith}
 use lib.Dec.{ltb}
 use lib.ListN.{length, get_or, get_or-eq_default}
-use borrow.Author.Tests.{not-true, not-false, ltb-true}
+use borrow.Author.Tests.{ltb-true}
 use Rattle.laws.specs.Tests.{first_of, ◌when◌or◌, accepted}
 use Rattle.laws.proofs.Cases.{and_left, holds_fails, first_no}
 use Rattle.model.specs.declared.TaskNo.{TaskNo}
@@ -26,14 +26,6 @@ use Rattle.model.proofs.Refused.{verdict_if, verdict_none, verdict_some}
 use Rattle.model.proofs.Stalled.{Acts, unstalled, stalled_some}
 use Rattle.events.specs.Changes.{Clear}
 use Rattle.events.specs.Computed.{elapses}
-
--- what a call says, by the branch that tests its denial
-module _ {a b : Bool} (e : a ≡ b) where
-  pub told_no : not a ≡ true → b ≡ false
-  told_no h = sym e ∙ not-true a h
-
-  pub told_yes : not a ≡ false → b ≡ true
-  told_yes h = sym e ∙ not-false a h
 
 -- a number in use has a place
 pub used_below : (count i : ℕ) → in_use count i ≡ true → i < places

@@ -18,6 +18,7 @@ each_unique = record {
   running_for_lem = λ f g p q κ a. (p κ a ∙ sym (q κ a), refl);
   budgets = λ f g p q κ a. (p κ a ∙ sym (q κ a), refl);
   refusal = λ f g p q κ a. (p κ a ∙ sym (q κ a), refl);
+  fill = λ f g p q κ a. ((p κ a).0 ∙ sym (q κ a).0, (p κ a).1.0 ∙ sym (q κ a).1.0);
   fill_rows = λ f g p q st rows. ((p st rows).0 ∙ sym (q st rows).0, (p st rows).1 ∙ sym (q st rows).1);
   row_of = λ f g p q κ a. (p κ a ∙ sym (q κ a), refl);
   decided = λ f g p q κ a. (p κ a ∙ sym (q κ a), refl);

@@ -18,6 +18,7 @@ use Rattle.chain.proofs.servers.running_for.Reads as RunningFor
 use Rattle.chain.proofs.servers.budgets.Reads as Budgets
 use Rattle.events.proofs.event.refusal.Reads as Refusal
 use Rattle.meter.proofs.Metered.{Metering, Meets}
+use Rattle.meter.proofs.rows.fill.Reads as Fill
 use Rattle.meter.proofs.row.row_of.Reads as RowOf
 use Rattle.meter.proofs.answer.decided.Reads as Decided
 use Rattle.meter.proofs.answer.rows_written.Reads as RowsWritten
@@ -102,7 +103,8 @@ pub record EachUnique : Type 0 where
   pub running_for_lem : Unique RunningFor.Post
   pub budgets : Unique Budgets.Post
   pub refusal : Unique Refusal.Post
-  -- Meter rows. The contract of `fill` is said by the crate in plain words (`Meets`).
+  -- Meter rows: the rows at exit are the second argument. What `fill` ensures is said by the crate in plain words too (`Meets`).
+  pub fill : UniqueLent Fill.Post (λ κ x. x.1.0.now)
   pub fill_rows :
       (f g : Metering) → Meets f → Meets g → (st : State) (rows : List Row) → ((f st rows).0 ≡ (g st rows).0) × ((f st rows).1 ≡ (g st rows).1)
   pub row_of : Unique RowOf.Post

@@ -33,10 +33,10 @@ use Rattle.step.proofs.Answers.{within, answer_is}
 
 -- what `step` promises of its result
 abbrev pub Met : State → Event → Outcome → Type 0
-Met st e o = (o ≡ stepped st e) × (said o.answer ≡ said (stepped st e).answer)
+Met st e o = record {value : o ≡ stepped st e; says : said o.answer ≡ said (stepped st e).answer}
 
 met : (st : State) (e : Event) (o : Outcome) → o ≡ stepped st e → Met st e o
-met st e o q = (q, ap (λ (x : Outcome). said x.answer) q)
+met st e o q = record { value = q; says = ap (λ (x : Outcome). said x.answer) q }
 
 pub step_unsound : (st : State) (e : Event) (o : Outcome) → sound st ≡ false → o ≡ record { answer = Refused 1; state = st } → Met st e o
 unfolding stepped
