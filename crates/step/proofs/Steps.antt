@@ -33,7 +33,7 @@ use Rattle.step.proofs.Answers.{within, answer_is}
 
 -- what `step` promises of its result
 abbrev pub Met : State → Event → Outcome → Type 0
-Met st e o = record {value : o ≡ stepped st e; says : said o.answer ≡ said (stepped st e).answer}
+Met st e o = record { value : o ≡ stepped st e; says : said o.answer ≡ said (stepped st e).answer }
 
 met : (st : State) (e : Event) (o : Outcome) → o ≡ stepped st e → Met st e o
 met st e o q = record { value = q; says = ap (λ (x : Outcome). said x.answer) q }
