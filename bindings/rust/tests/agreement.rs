@@ -138,6 +138,9 @@ fn words_are_those_of_the_source() {
     assert_eq!(source.remove("WORD"), Some(1 << 56));
     let further = source.remove("FURTHER").expect("what follows has a place");
     let waiting = source.remove("WAITING").expect("62 has a name");
+    let unfit = source
+        .remove("UNFIT")
+        .expect("memory of another length has an answer");
     let words = members("vesztamor_word");
     assert_eq!(words.len(), source.len() + 1);
     assert_eq!(words["OK"], 0);
@@ -149,6 +152,8 @@ fn words_are_those_of_the_source() {
         );
     }
     assert_eq!(waiting, members("vesztamor_refusal")["WAITING"]);
+    let wrong_length = members("vesztamor_refusal")["WRONG_LENGTH"];
+    assert_eq!(unfit, source["REFUSED"] + wrong_length);
     let refused = source["REFUSED"] + waiting;
     assert_eq!(Answer::of(refused), Answer::Refused(waiting as u32));
     for resource in [0, 5, 65535] {
@@ -163,12 +168,11 @@ fn words_are_those_of_the_source() {
 fn phases_are_those_of_the_source() {
     let phases = members("vesztamor_phase");
     let mut seen = 0;
-    for line in text("crates/vesztamor/src/metering.rt").lines() {
+    // the equations of the definition, which the function that writes a phase is proved to meet
+    for line in text("crates/image/specs/Encoded.antt").lines() {
         let Some((phase, number)) = line
-            .trim()
-            .trim_end_matches(',')
-            .strip_prefix("Phase::")
-            .and_then(|arm| arm.split_once(" => "))
+            .strip_prefix("phase_tag ")
+            .and_then(|rest| rest.split_once(" = "))
         else {
             continue;
         };
@@ -205,7 +209,28 @@ fn refusals_of_the_header_are_those_of_the_table() {
     assert_eq!(header, refusals());
 }
 
-/// Every number that a source file writes as a refusal or a stop.
+/// The refusals of a source file that it turns into numbers, in capitals: `Refusal::NoSuchTask => 2,`.
+fn numbered(source: &str) -> Numbers {
+    let arm = |line: &str| {
+        let (name, number) = line.trim().strip_prefix("Refusal::")?.split_once(" => ")?;
+        Some((capitals(name), number.strip_suffix(',')?.parse().ok()?))
+    };
+    source.lines().filter_map(arm).collect()
+}
+
+/// `NO_SUCH_TASK` of `NoSuchTask`.
+fn capitals(name: &str) -> String {
+    let mut words = String::new();
+    for (i, letter) in name.char_indices() {
+        if i > 0 && letter.is_uppercase() {
+            words.push('_');
+        }
+        words.push(letter.to_ascii_uppercase());
+    }
+    words
+}
+
+/// Every number that a source file writes as a refusal or a stop, in place of a name.
 fn told(source: &str) -> Vec<u64> {
     let mut numbers = Vec::new();
     for word in ["Refused(", "refusal(", "refused(", "put_stop("] {
@@ -219,26 +244,19 @@ fn told(source: &str) -> Vec<u64> {
 
 #[test]
 fn refusals_of_the_source_stand_in_the_table() {
-    let table: Vec<u64> = refusals().into_values().collect();
-    let mut found = 0;
+    assert_eq!(numbered(&text("crates/model/src/refusals.rt")), refusals());
     for folder in fs::read_dir(tree().join("crates")).unwrap() {
         let Ok(files) = fs::read_dir(folder.unwrap().path().join("src")) else {
             continue;
         };
         for file in files {
             let path = file.unwrap().path();
-            for number in told(&fs::read_to_string(&path).unwrap()) {
-                found += 1;
-                assert!(
-                    number == 0 || table.contains(&number),
-                    "{}: {number} is not in docs/REFUSALS.md",
-                    path.display()
-                );
-            }
+            let numbers = told(&fs::read_to_string(&path).unwrap());
+            assert!(
+                numbers.iter().all(|&number| number == 0),
+                "{}: {numbers:?} have names in model::Refusal",
+                path.display()
+            );
         }
     }
-    assert!(
-        found > 40,
-        "the source tells only {found} numbers: this test no longer reads it rightly"
-    );
 }

@@ -14,10 +14,9 @@ use Rattle.laws.proofs.Cases.{and_left, and_right, none_some}
 use Rattle.laws.proofs.Reflect.{reflects_self, reflects_le, reflects_lt, reflects_and}
 use Rattle.laws.proofs.Fold.{last_or_below}
 use Rattle.laws.proofs.All.{all_at}
-use Rattle.bound.specs.declared.Parent.{Parent}
-use Rattle.bound.specs.declared.Parent.TheVariants.{Outermost, Inside}
+use Rattle.std.specs.Prelude.{Some, None}
 use Rattle.bound.specs.declared.Sections.{Sections}
-use Rattle.bound.specs.Table.{section_at, counts_fit, parent_fits, section_fits, above, child_length, children_fit, section_tests, section_refusal, table_refusal}
+use Rattle.bound.specs.Table.{Parent, section_at, counts_fit, parent_fits, section_fits, above, child_length, children_fit, section_tests, section_refusal, table_refusal}
 
 pub record Accepted (s : Sections) : Type 0 where
   pub tasks_least : 1 ≤ s.tasks
@@ -27,9 +26,9 @@ pub record Accepted (s : Sections) : Type 0 where
   pub resource_most : (i : ℕ) → i < s.count → (section_at s i).resource ≤ 15
   pub length_least : (i : ℕ) → i < s.count → 1 ≤ (section_at s i).length
   pub length_most : (i : ℕ) → i < s.count → (section_at s i).length ≤ 1000000
-  pub parent_earlier : (i p : ℕ) → i < s.count → (section_at s i).parent ≡ Inside p → p < i
-  pub parent_task : (i p : ℕ) → i < s.count → (section_at s i).parent ≡ Inside p → (section_at s p).task.0 ≡ (section_at s i).task.0
-  pub parent_below : (i p : ℕ) → i < s.count → (section_at s i).parent ≡ Inside p → (section_at s p).resource < (section_at s i).resource
+  pub parent_earlier : (i p : ℕ) → i < s.count → (section_at s i).parent ≡ Some p → p < i
+  pub parent_task : (i p : ℕ) → i < s.count → (section_at s i).parent ≡ Some p → (section_at s p).task.0 ≡ (section_at s i).task.0
+  pub parent_below : (i p : ℕ) → i < s.count → (section_at s i).parent ≡ Some p → (section_at s p).resource < (section_at s i).resource
   pub children_most : (i : ℕ) → i < s.count → sum_to s.count (child_length s i) ≤ (section_at s i).length
 
 -- neither of two refusals
@@ -61,15 +60,15 @@ module _ (s : Sections) where
       (λ (m : i < n). section_passed n i m (earlier_none (fold_to n (section_refusal s) none) (first_of (section_tests s n)) e))
       (last_or_below i n l)
 
-  parent_fits_lem : (i p : ℕ) (o : Parent) → parent_fits s i o ≡ true → o ≡ Inside p → (p < i) × ((section_at s p).task.0 ≡ (section_at s i).task.0)
-  parent_fits_lem i p Outermost h e = absurd (let z : ◌≡◌ {A = ℕ} 0 1 = cc in omega arith)
-  parent_fits_lem i p (Inside k) h e =
+  parent_fits_lem : (i p : ℕ) (o : Parent) → parent_fits s i o ≡ true → o ≡ Some p → (p < i) × ((section_at s p).task.0 ≡ (section_at s i).task.0)
+  parent_fits_lem i p None h e = absurd (let z : ◌≡◌ {A = ℕ} 0 1 = cc in omega arith)
+  parent_fits_lem i p (Some k) h e =
       let q : k ≡ p = cc in
       rw (← q) (ltb-true _ _ (and_left _ _ h), eqb-true _ _ (and_right (ltb k i) _ h))
 
-  is_above : (r p : ℕ) (o : Parent) → above s r o ≡ true → o ≡ Inside p → (section_at s p).resource < r
-  is_above r p Outermost h e = absurd (let z : ◌≡◌ {A = ℕ} 0 1 = cc in omega arith)
-  is_above r p (Inside k) h e = let q : k ≡ p = cc in rw (← q) (ltb-true _ _ h)
+  is_above : (r p : ℕ) (o : Parent) → above s r o ≡ true → o ≡ Some p → (section_at s p).resource < r
+  is_above r p None h e = absurd (let z : ◌≡◌ {A = ℕ} 0 1 = cc in omega arith)
+  is_above r p (Some k) h e = let q : k ≡ p = cc in rw (← q) (ltb-true _ _ h)
 
   -- 41 as facts
   fits

@@ -4,20 +4,19 @@ use mathlib.Core.Bool.{Bool, true, false}
 use mathlib.Core.List.{List, [], ◌∷◌}
 use mathlib.Core.Option.{Option, none, some}
 use mathlib.Core.Logic.{◌↔◌}
-use Prim.Native.Nat.{ℕ, ◌<◌, ◌≤◌}
+use Prim.Native.Nat.{ℕ, ◌<◌}
 use native.Mathlib.Omega.{arith}
-use lib.Dec.{ltb, leb}
-use borrow.Author.Tests.{ltb-true, lt-ltb, leb-true}
+use lib.Dec.{ltb}
+use borrow.Author.Tests.{ltb-true, lt-ltb}
 use Rattle.laws.specs.Tests.{first_of, ◌or_else◌}
-use Rattle.laws.proofs.Cases.{split, none_some, and_right}
+use Rattle.laws.proofs.Cases.{split, none_some}
 use Rattle.laws.proofs.Fold.{fold_keeps}
-use Rattle.bound.specs.declared.Bounded.TheVariants.{Bound, Refused}
-use Rattle.bound.specs.declared.Parent.TheVariants.{Outermost}
+use Rattle.std.specs.Prelude.{None, Err}
 use Rattle.bound.specs.declared.Sections.{Sections}
 use Rattle.bound.specs.Sets.{no_task, no_resource, with}
 use Rattle.bound.specs.Table.{section_refusal, table_refusal, refusal}
 use Rattle.bound.specs.Interference.{Weighed, bound}
-use Rattle.bound.specs.Answer.{within, unless_refused, answer}
+use Rattle.bound.specs.Answer.{bounded, within, unless_refused, answer}
 use Rattle.bound.proofs.Accepted.{Accepted, earlier_none, later_none, passed, accepted_table}
 use Rattle.bound.proofs.Unfolded.{interference, bound_is}
 
@@ -26,17 +25,15 @@ module _ (s : Sections) (t allowance : ℕ) where
   unfolding refusal
   task_there e = ltb-true _ _ (passed 44 (ltb t s.tasks) _ (later_none (table_refusal s) _ e)).0
 
-  pub table_accepted : refusal s t allowance ≡ none → Accepted s
+  pub table_free : refusal s t allowance ≡ none → table_refusal s ≡ none
   unfolding refusal
-  table_accepted e = accepted_table s (earlier_none (table_refusal s) _ e)
+  table_free e = earlier_none (table_refusal s) _ e
 
-  pub allowance_most : refusal s t allowance ≡ none → allowance ≤ 1000000
-  unfolding refusal
-  allowance_most e =
-      leb-true _ _ (and_right (leb 1 allowance) _ (passed 45 _ [] (passed 44 (ltb t s.tasks) _ (later_none (table_refusal s) _ e)).1).0)
+  pub table_accepted : refusal s t allowance ≡ none → Accepted s
+  table_accepted e = accepted_table s (table_free e)
 
   -- accepted: the bound, from the calculation as the rules say it, within the allowance
-  pub answer_is : refusal s t allowance ≡ none → answer s t allowance ≡ within allowance (interference s (with no_task t) t Outermost no_resource)
+  pub answer_is : refusal s t allowance ≡ none → answer s t allowance ≡ within allowance (interference s (with no_task t) t None no_resource)
   unfolding answer
   answer_is e = rw e (ap (within allowance) (bound_is s (table_accepted e) t (task_there e)))
 
@@ -71,11 +68,11 @@ module _ (s : Sections) (t allowance : ℕ) where
 -- the answer is 46 where nothing is refused and the weighings exceed the allowance
 told_46
     : (o : Option ℕ) (allowance : ℕ) (w : Weighed) → (o ≡ some 46 → ⊥)
-    → unless_refused o (within allowance w) ≡ Refused 46 → (o ≡ none) × (allowance < w.weighings)
+    → unless_refused o (within allowance w) ≡ Err 46 → (o ≡ none) × (allowance < w.weighings)
 told_46 none allowance w h e = (
   refl,
   split (ltb allowance w.weighings) (ltb-true _ _) (λ n.
-      let q : Bound w.value w.weighings ≡ Refused 46 = rw n at e in
+      let q : bounded w.value w.weighings ≡ Err 46 = rw n at e in
       let z : ◌≡◌ {A = ℕ} 0 1 = cc in
       absurd (omega arith)),
 )
@@ -84,6 +81,6 @@ told_46 (some n) allowance w h e = absurd (h (cc))
 -- 46 comes where the weighings exceed the allowance, and only there
 pub spent_exactly
     : (s : Sections) (t allowance : ℕ)
-    → (answer s t allowance ≡ Refused 46) ↔ ((refusal s t allowance ≡ none) × (allowance < (bound s t).weighings))
+    → (answer s t allowance ≡ Err 46) ↔ ((refusal s t allowance ≡ none) × (allowance < (bound s t).weighings))
 unfolding answer
 spent_exactly s t allowance = (told_46 (refusal s t allowance) allowance (bound s t) (not_46 s t allowance), λ h. rw (h.0, lt-ltb _ _ h.1))

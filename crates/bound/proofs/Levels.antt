@@ -13,11 +13,10 @@ use Rattle.laws.proofs.Cases.{split, holds_fails, and_left, and_right, and_both}
 use Rattle.laws.proofs.Count.{count_mono, count_but_one}
 use Rattle.laws.proofs.Fold.{fold_keeps}
 use Rattle.laws.proofs.Lists.{get_d_set, replicate_at}
-use Rattle.bound.specs.declared.Parent.{Parent}
-use Rattle.bound.specs.declared.Parent.TheVariants.{Inside}
+use Rattle.std.specs.Prelude.{Some}
 use Rattle.bound.specs.declared.Sections.{Sections}
 use Rattle.bound.specs.Sets.{Tasks, Resources, no_task, has, with, joined, meets}
-use Rattle.bound.specs.Table.{section_at, outer}
+use Rattle.bound.specs.Table.{Parent, section_at, outer}
 use Rattle.bound.specs.Interference.{Calculation, weighing_if, weighing, blocker, blockers, ordering, sums, level}
 use Rattle.bound.proofs.Accepted.{Accepted}
 use Rattle.bound.proofs.Gathered.{enough}
@@ -80,7 +79,7 @@ module _ (s : Sections) (good : Accepted s) where
   weighing_same : (f g : Calculation) (b : Tasks) (hold : Resources) (i : ℕ) → let x = (section_at s i).task.0 in
       ((p : Parent) (r : Resources) → f (with b x) x p r ≡ g (with b x) x p r) → weighing f s b hold i ≡ weighing g s b hold i
   unfolding weighing_if
-  weighing_same f g b hold i e = split (meets (outer s i) hold) (λ y. rw y) (λ n. rw (n, e (Inside i) (joined hold (outer s i))))
+  weighing_same f g b hold i e = split (meets (outer s i) hold) (λ y. rw y) (λ n. rw (n, e (Some i) (joined hold (outer s i))))
 
   -- an ordering value by calculations that agree once a task from outside has joined B, and by numbers that are enough
   pub ordering_same : (f g : Calculation) (m n : ℕ) (b : Tasks) (q : ℕ) (entry : Resources) → outside s b ≤ m → outside s b ≤ n

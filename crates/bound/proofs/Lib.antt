@@ -9,7 +9,6 @@ pub mod Answers
 pub mod Turns
 pub mod Steps
 pub mod Refusals
-pub mod Drawing
 pub mod Answered
 pub mod Says
 pub mod Masks

@@ -1,7 +1,6 @@
 -- A set of resources as a number: what a bit more, the bits of two numbers and their common bits are as sets. Assumes nothing.
 use mathlib.Core.Path.{◌≡◌, refl, sym, ap, ap₂, ◌∙◌}
 use mathlib.Core.Bool.{Bool, true, false, not, ◌&&◌, ◌||◌, true≢false}
-use mathlib.Core.List.{List, []}
 use mathlib.Core.Logic.{◌⊎◌, inl, inr, ⊎_elim}
 use Prim.Native.Nat.{ℕ, zero, suc, ◌+◌, ◌*◌, ◌/◌, ◌%◌, ◌^◌, ◌<◌, min, max}
 use native.Mathlib.Nat.{mod-lt, div-add-mod', div-one}
@@ -10,7 +9,7 @@ use native.Mathlib.Omega.{arith}
 use lib.Arith.{digits_mod}
 use lib.Bits.{bit_and, bit_or, and_step, or_step, and_shr, or_shr, and_le_l}
 use lib.Dec.{eqb}
-use lib.ListN.{length, get_or, set, replicate, length-set}
+use lib.ListN.{length, length-set}
 use lib.Pow.{shr-shr, shr_lt}
 use lib.Seq.{ext_get_or}
 use borrow.Author.Tests.{eqb-true, eq-eqb}
@@ -21,7 +20,7 @@ use Rattle.laws.proofs.Cases.{split, tests_same}
 use Rattle.laws.proofs.Lists.{get_d_set}
 use Rattle.laws.proofs.Set.{set_at_lem, length_set_to}
 use Rattle.bound.specs.Sets.{Resources, no_resource, has, with, in_either, joined, not_in_both, meets}
-use Rattle.bound.specs.Computed.{in_mask, resources_of, set_at, sets_of}
+use Rattle.bound.specs.Computed.{in_mask, resources_of}
 
 sixteen : (m : ℕ) → length (resources_of m) ≡ 16
 unfolding resources_of
@@ -155,25 +154,3 @@ mask_meets a b l =
 pub mask_none : resources_of 0 ≡ no_resource
 unfolding resources_of set_to in_mask
 mask_none = refl
-
--- the sets of twelve numbers
-pub sets_at : (ms : List ℕ) (i : ℕ) → i < 12 → get_or (sets_of ms) i [] ≡ resources_of (get_or ms i 0)
-unfolding sets_of set_at
-sets_at ms i l = set_at_lem 12 i (set_at ms) (replicate 12 no_resource) [] l l
-
-pub sets_none : sets_of (replicate 12 0) ≡ replicate 12 no_resource
-unfolding sets_of set_at set_to resources_of in_mask
-sets_none = refl
-
-twelve : (ms : List ℕ) → length (sets_of ms) ≡ 12
-unfolding sets_of
-twelve ms = length_set_to 12 (set_at ms) (replicate 12 no_resource)
-
-pub sets_set : (ms : List ℕ) (i m : ℕ) → i < 12 → length ms ≡ 12 → sets_of (set ms i m) ≡ set (sets_of ms) i (resources_of m)
-sets_set ms i m l e =
-    ext_get_or [] (sets_of (set ms i m)) (set (sets_of ms) i (resources_of m)) (twelve (set ms i m) ∙ sym (length-set (sets_of ms) i (resources_of m) ∙ twelve ms))
-    (λ j k.
-    let inside : j < 12 = omega (arith, twelve (set ms i m)) in
-    sets_at (set ms i m) j inside ∙ ap resources_of (get_d_set ms i j m 0 (omega arith))
-    ∙ split (eqb j i) (λ y. rw y) (λ n. rw n (sym (sets_at ms j inside)))
-    ∙ sym (get_d_set (sets_of ms) i j (resources_of m) [] (omega (arith, twelve ms))))

@@ -2,39 +2,38 @@
 use mathlib.Core.Path.{◌≡◌, refl, ap}
 use Prim.Native.Nat.{ℕ, zero, suc, ◌<◌, ◌≤◌}
 use native.Mathlib.Omega.{arith}
-use Rattle.bound.specs.declared.Parent.{Parent}
-use Rattle.bound.specs.declared.Parent.TheVariants.{Outermost, Inside}
+use Rattle.std.specs.Prelude.{Some, None}
 use Rattle.bound.specs.declared.Sections.{Sections}
 use Rattle.bound.specs.Sets.{no_resource, with}
-use Rattle.bound.specs.Table.{section_at, around, outer}
+use Rattle.bound.specs.Table.{Parent, section_at, around, outer}
 use Rattle.bound.proofs.Accepted.{Accepted}
 
 -- how many sections may stand around one with this parent
 abbrev reach : Parent → ℕ
-reach Outermost = 0
-reach (Inside p) = suc p
+reach None = 0
+reach (Some p) = suc p
 
 module _ (s : Sections) where
   -- the parent of an earlier section reaches less far out
   reach_less : Accepted s → (p : ℕ) (o : Parent) → p < s.count → (section_at s p).parent ≡ o → reach o ≤ p
-  reach_less good p Outermost l e = omega arith
-  reach_less good p (Inside k) l e = good.parent_earlier p k l e
+  reach_less good p None l e = omega arith
+  reach_less good p (Some k) l e = good.parent_earlier p k l e
 
   -- one more section outwards than there are
   around_step : Accepted s → (n : ℕ) (o : Parent) → reach o ≤ n → reach o ≤ s.count → around n s o ≡ around (suc n) s o
   unfolding around
-  around_step good zero Outermost h l = refl
-  around_step good zero (Inside p) h l = absurd (omega arith)
-  around_step good (suc n) Outermost h l = refl
-  around_step good (suc n) (Inside p) h l =
+  around_step good zero None h l = refl
+  around_step good zero (Some p) h l = absurd (omega arith)
+  around_step good (suc n) None h l = refl
+  around_step good (suc n) (Some p) h l =
       let less = reach_less good p (section_at s p).parent l refl in
       ap (λ r. with r (section_at s p).resource) (around_step good n (section_at s p).parent (omega arith) (omega arith))
 
-  pub outer_none : (i : ℕ) → (section_at s i).parent ≡ Outermost → outer s i ≡ no_resource
+  pub outer_none : (i : ℕ) → (section_at s i).parent ≡ None → outer s i ≡ no_resource
   unfolding outer around
   outer_none i e = rw e
 
-  pub outer_is : Accepted s → (i p : ℕ) → i < s.count → (section_at s i).parent ≡ Inside p → outer s i ≡ with (outer s p) (section_at s p).resource
+  pub outer_is : Accepted s → (i p : ℕ) → i < s.count → (section_at s i).parent ≡ Some p → outer s i ≡ with (outer s p) (section_at s p).resource
   unfolding outer around
   outer_is good i p l e =
       let earlier = good.parent_earlier i p l e in

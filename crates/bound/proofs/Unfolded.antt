@@ -10,8 +10,8 @@ use borrow.Author.Tests.{ltb-true, ltb-false, lt-ltb}
 use Rattle.laws.specs.Loops.{count_to}
 use Rattle.laws.proofs.Cases.{split, and_both}
 use Rattle.laws.proofs.Lists.{replicate_at}
-use Rattle.bound.specs.declared.Parent.{Parent}
-use Rattle.bound.specs.declared.Parent.TheVariants.{Outermost, Inside}
+use Rattle.std.specs.Prelude.{Some, None}
+use Rattle.bound.specs.Table.{Parent}
 use Rattle.bound.specs.declared.Sections.{Sections}
 use Rattle.bound.specs.Sets.{Tasks, Resources, no_task, no_resource, with, without}
 use Rattle.bound.specs.Interference.{Weighed, Calculation, both, larger, gathered, weighing, tried_next, order, blockers, ordering, sum_over, sums, level, bound}
@@ -48,8 +48,8 @@ order_is s q b remaining held six =
     order_more s q b weigh (remain remaining) (without remaining x) hold (length-set remaining x false ∙ six) (omega (arith, remain_without remaining x six (omega arith) e))))
 
 nesting_most : (s : Sections) → Accepted s → (p : Parent) → nesting s p ≤ 12
-nesting_most s good Outermost = good.count_most
-nesting_most s good (Inside p) = omega (arith, good.count_most)
+nesting_most s good None = good.count_most
+nesting_most s good (Some p) = omega (arith, good.count_most)
 
 module _ (s : Sections) (good : Accepted s) (b : Tasks) (six : length b ≡ 6) where
   -- any numbers that are enough give the same
@@ -82,7 +82,7 @@ module _ (s : Sections) (good : Accepted s) (b : Tasks) (six : length b ≡ 6) w
       ∙ gathered_same _ _ _ s.count
       (λ c l.
       over_same s t _ _ _ _ p r c value_is
-      (λ e wider. numbers_more (outside s b) (outside s b) 12 t (Inside c) wider (omega arith) (omega arith) (nesting_most s good (Inside c))))
+      (λ e wider. numbers_more (outside s b) (outside s b) 12 t (Some c) wider (omega arith) (omega arith) (nesting_most s good (Some c))))
 
 -- B with no task in it leaves all outside
 outside_none : (s : Sections) (n : ℕ) → count_to n (is_outside s no_task) ≡ min n s.tasks
@@ -95,9 +95,9 @@ outside_none s (suc n) =
     (λ e. rw e (omega (arith, ltb-false n s.tasks e, outside_none s n)))
 
 -- rule 12.6
-pub bound_is : (s : Sections) → Accepted s → (t : ℕ) → t < s.tasks → bound s t ≡ interference s (with no_task t) t Outermost no_resource
+pub bound_is : (s : Sections) → Accepted s → (t : ℕ) → t < s.tasks → bound s t ≡ interference s (with no_task t) t None no_resource
 unfolding bound interference is_outside
 bound_is s good t l =
     let there : is_outside s no_task t ≡ true = and_both _ _ (lt-ltb t s.tasks l) (rw (replicate_at 6 t false)) in
     let fewer = outside_with s no_task t refl (omega (arith, good.tasks_most)) there in
-    level_more s good (s.tasks - 1) (with no_task t) t Outermost no_resource (length-set no_task t true) (omega (arith, outside_none s 6, good.tasks_most))
+    level_more s good (s.tasks - 1) (with no_task t) t None no_resource (length-set no_task t true) (omega (arith, outside_none s 6, good.tasks_most))

@@ -1,19 +1,25 @@
 -- What is answered for a table, a task and an allowance (rule 12.9), and what each answer says. Assumes nothing.
-use Rattle.std.specs.Prelude.{ℕ, ltb, if◌then◌else◌}
+use Rattle.std.specs.Prelude.{ℕ, ltb, if◌then◌else◌, Result, Ok, Err}
 use Rattle.std.proofs.Math.Option.{Option, none, some}
-use Rattle.bound.specs.declared.Bounded.{Bounded}
-use Rattle.bound.specs.declared.Bounded.TheVariants.{Bound, Refused}
+use Rattle.bound.specs.declared.Bound.{Bound}
 use Rattle.bound.specs.declared.Sections.{Sections}
 use Rattle.bound.specs.Table.{refusal}
 use Rattle.bound.specs.Interference.{Weighed, bound}
 
--- the bound and its weighings, or 46 where these are more than the allowance
+-- the bound and its weighings, or a refusal's number
+abbrev pub Bounded : Type 0
+Bounded = Result Bound ℕ
+
+abbrev pub bounded : ℕ → ℕ → Bounded
+bounded value weighings = Ok (record { value = value; weighings = weighings })
+
+-- 46 where the weighings are more than the allowance
 abbrev pub within : ℕ → Weighed → Bounded
-within allowance w = if ltb allowance w.weighings then Refused 46 else Bound w.value w.weighings
+within allowance w = if ltb allowance w.weighings then Err 46 else bounded w.value w.weighings
 
 abbrev pub unless_refused : Option ℕ → Bounded → Bounded
 unless_refused none found = found
-unless_refused (some n) found = Refused n
+unless_refused (some n) found = Err n
 
 -- refusals 40 to 45 first, then the calculation
 unfoldable pub answer : Sections → ℕ → ℕ → Bounded
@@ -26,5 +32,5 @@ pub record Said : Type 0 where
 
 -- a refusal has neither a bound nor weighings
 abbrev pub said : Bounded → Said
-said (Bound b n) = record { refused = none; bound = b; weighings = n }
-said (Refused n) = record { refused = some n; bound = 0; weighings = 0 }
+said (Ok found) = record { refused = none; bound = found.value; weighings = found.weighings }
+said (Err n) = record { refused = some n; bound = 0; weighings = 0 }

@@ -1,14 +1,11 @@
 -- The interference sum and the ordering value, after Fig. 5 of document 004, each with its count of weighings.
 -- Two numbers fall: the tasks outside B (`level`), and within a level the depth (`sums`) or the tasks left to order (`order`).
 -- No calculation sees an allowance. Assumes nothing; for accepted tables proofs/ shows that the numbers cut nothing off.
-use Rattle.std.specs.Prelude.{ℕ, zero, suc, ◌+◌, ◌-◌, Bool, true, false, not, ◌&&◌, ltb, eqb, if◌then◌else◌}
-use Rattle.std.proofs.Math.Option.{Option, none, some}
+use Rattle.std.specs.Prelude.{ℕ, zero, suc, ◌+◌, ◌-◌, Bool, true, false, not, ◌&&◌, ltb, eqb, if◌then◌else◌, Option, Some, None}
 use Rattle.laws.specs.Loops.{fold_to}
-use Rattle.bound.specs.declared.Parent.{Parent}
-use Rattle.bound.specs.declared.Parent.TheVariants.{Outermost, Inside}
 use Rattle.bound.specs.declared.Sections.{Sections}
 use Rattle.bound.specs.Sets.{task_numbers, Tasks, Resources, no_task, no_resource, has, with, without, joined, meets}
-use Rattle.bound.specs.Table.{section_numbers, section_at, directly_in, outer}
+use Rattle.bound.specs.Table.{section_numbers, Parent, section_at, directly_in, outer}
 
 -- a value, the section that gave it if one did, and the weighings spent on it
 pub record Weighed : Type 0 where
@@ -20,15 +17,15 @@ abbrev pub weighed : ℕ → Option ℕ → ℕ → Weighed
 weighed value giver weighings = record { value = value; giver = giver; weighings = weighings }
 
 abbrev pub nothing : Weighed
-nothing = weighed 0 none 0
+nothing = weighed 0 None 0
 
 -- two findings one after the other: values and weighings add up
 abbrev pub both : Weighed → Weighed → Weighed
-both found new = weighed (found.value + new.value) none (found.weighings + new.weighings)
+both found new = weighed (found.value + new.value) None (found.weighings + new.weighings)
 
 -- the larger of two values, with the weighings spent on either
 abbrev pub larger : Weighed → Weighed → Weighed
-larger found new = weighed (if ltb found.value new.value then new.value else found.value) none (found.weighings + new.weighings)
+larger found new = weighed (if ltb found.value new.value then new.value else found.value) None (found.weighings + new.weighings)
 
 -- the first n turns of a loop: what turn i gives is joined to what the turns before it gave
 unfoldable pub gathered : (ℕ → Weighed → Weighed → Weighed) → (ℕ → Weighed) → ℕ → Weighed
@@ -45,10 +42,10 @@ Weighing = Tasks → Resources → ℕ → Weighed
 
 -- what a section gives in an order (rule 12.5), and one weighing for it whatever it gives (rule 12.8)
 unfoldable pub weighing_if : Bool → Calculation → Sections → Weighing
-weighing_if true same s b held i = weighed 0 none 1
+weighing_if true same s b held i = weighed 0 None 1
 weighing_if false same s b held i =
     let x = (section_at s i).task.0 in
-    both (weighed (section_at s i).length none 1) (same (with b x) x (Inside i) (joined held (outer s i)))
+    both (weighed (section_at s i).length None 1) (same (with b x) x (Some i) (joined held (outer s i)))
 
 abbrev pub weighing : Calculation → Sections → Weighing
 weighing same s b held i = weighing_if (meets (outer s i) held) same s b held i
@@ -65,15 +62,15 @@ weighed_on weigh s q x i = if is_on s q x i then weigh i else nothing
 abbrev pub first_greatest : ℕ → Weighed → Weighed → Weighed
 first_greatest i found new =
     let better = ltb found.value new.value in
-    weighed (if better then new.value else found.value) (if better then some i else found.giver) (found.weighings + new.weighings)
+    weighed (if better then new.value else found.value) (if better then Some i else found.giver) (found.weighings + new.weighings)
 
 unfoldable pub best : (ℕ → Weighed) → Sections → ℕ → ℕ → Weighed
 best weigh s q x = gathered first_greatest (weighed_on weigh s q x) s.count
 
 -- Held after the task: with the outer resources of the section that counts, or as it was where none gives anything (rule 12.5)
 abbrev pub held_after : Sections → Resources → Option ℕ → Resources
-held_after s held none = held
-held_after s held (some i) = joined held (outer s i)
+held_after s held None = held
+held_after s held (Some i) = joined held (outer s i)
 
 -- the orders with task x next (rule 12.8); B is the same for all that follows (rule 12.7)
 unfoldable pub tried_next : Weighing → (Tasks → Tasks → Resources → Weighed) → Sections → ℕ → Tasks → Tasks → Resources → ℕ → Weighed
@@ -106,7 +103,7 @@ is_in s t p c = eqb (section_at s c).task.0 t && directly_in (section_at s c).pa
 unfoldable pub sum_over : (ℕ → Resources → Weighed) → (Parent → Resources → Weighed) → Sections → ℕ → Parent → Resources → ℕ → Weighed
 sum_over ordered same s t p r c =
     let wider = with r (section_at s c).resource in
-    if is_in s t p c then both (ordered (section_at s c).resource wider) (same (Inside c) wider) else nothing
+    if is_in s t p c then both (ordered (section_at s c).resource wider) (same (Some c) wider) else nothing
 
 -- the sum of rule 12.4
 unfoldable pub sums : ℕ → (ℕ → Resources → Weighed) → Sections → ℕ → Parent → Resources → Weighed
@@ -120,4 +117,4 @@ level (suc left) depth s b t p r = sums depth (ordering (suc left) (level left s
 
 -- rule 12.6
 unfoldable pub bound : Sections → ℕ → Weighed
-bound s t = level (s.tasks - 1) section_numbers s (with no_task t) t Outermost no_resource
+bound s t = level (s.tasks - 1) section_numbers s (with no_task t) t None no_resource

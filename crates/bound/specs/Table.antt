@@ -1,11 +1,10 @@
 -- The table of sections: a section's outer resources (rule 12.3), and the refusals 40 to 45 in the order of rule 12.9.
 -- Entries past `count` are not read. Assumes nothing.
-use Rattle.std.specs.Prelude.{ℕ, zero, suc, Bool, true, false, not, ◌&&◌, List, ltb, leb, eqb, get_or, if◌then◌else◌}
+use Rattle.std.specs.Prelude.{ℕ, zero, suc, Bool, true, false, not, ◌&&◌, List, ltb, leb, eqb, get_or, if◌then◌else◌, Some, None}
+use Rattle.std.specs.Prelude as prelude
 use Rattle.std.proofs.Math.Option.{Option, none}
 use Rattle.laws.specs.Tests.{accepted, ◌when◌or◌, first_of, ◌or_else◌}
 use Rattle.laws.specs.Loops.{all_to, sum_to, fold_to}
-use Rattle.bound.specs.declared.Parent.{Parent}
-use Rattle.bound.specs.declared.Parent.TheVariants.{Outermost, Inside}
 use Rattle.bound.specs.declared.Section.{Section}
 use Rattle.bound.specs.declared.Sections.{Sections}
 use Rattle.bound.specs.Sets.{task_numbers, Resources, no_resource, with}
@@ -17,24 +16,28 @@ section_numbers = 12
 abbrev pub million : ℕ
 million = 1000000
 
+-- where a section stands: in none, or directly in the section of that number
+abbrev pub Parent : Type 0
+Parent = prelude.Option ℕ
+
 abbrev pub no_section : Section
-no_section = record { task = record { 0 = 0 }; resource = 0; length = 0; parent = Outermost }
+no_section = record { task = record { 0 = 0 }; resource = 0; length = 0; parent = None }
 
 abbrev pub section_at : Sections → ℕ → Section
 section_at s i = get_or s.section i no_section
 
 -- a section with the first as its parent stands directly in the second
 abbrev pub directly_in : Parent → Parent → Bool
-directly_in Outermost Outermost = true
-directly_in Outermost (Inside p) = false
-directly_in (Inside i) Outermost = false
-directly_in (Inside i) (Inside p) = eqb i p
+directly_in None None = true
+directly_in None (Some p) = false
+directly_in (Some i) None = false
+directly_in (Some i) (Some p) = eqb i p
 
 -- the resources around a section with this parent, n sections outwards
 unfoldable pub around : ℕ → Sections → Parent → Resources
 around zero s p = no_resource
-around (suc n) s Outermost = no_resource
-around (suc n) s (Inside p) = with (around n s (section_at s p).parent) (section_at s p).resource
+around (suc n) s None = no_resource
+around (suc n) s (Some p) = with (around n s (section_at s p).parent) (section_at s p).resource
 
 -- rule 12.3; at most 12 sections are around one, since each is an earlier one
 unfoldable pub outer : Sections → ℕ → Resources
@@ -46,8 +49,8 @@ counts_fit s = leb 1 s.tasks && leb s.tasks task_numbers && leb s.count section_
 
 -- the parent of rule 12.1
 abbrev pub parent_fits : Sections → ℕ → Parent → Bool
-parent_fits s i Outermost = true
-parent_fits s i (Inside p) = ltb p i && eqb (section_at s p).task.0 (section_at s i).task.0
+parent_fits s i None = true
+parent_fits s i (Some p) = ltb p i && eqb (section_at s p).task.0 (section_at s i).task.0
 
 -- the section of rule 12.1
 unfoldable pub section_fits : Sections → ℕ → Bool
@@ -58,12 +61,12 @@ section_fits s i =
 
 -- a resource above the parent's: rule 12.2
 abbrev pub above : Sections → ℕ → Parent → Bool
-above s r Outermost = true
-above s r (Inside p) = ltb (section_at s p).resource r
+above s r None = true
+above s r (Some p) = ltb (section_at s p).resource r
 
 -- c's length where it is a direct child of i
 unfoldable pub child_length : Sections → ℕ → ℕ → ℕ
-child_length s i c = if directly_in (section_at s c).parent (Inside i) then (section_at s c).length else 0
+child_length s i c = if directly_in (section_at s c).parent (Some i) then (section_at s c).length else 0
 
 -- children together no longer than their parent: rule 12.2
 unfoldable pub children_fit : Sections → ℕ → Bool

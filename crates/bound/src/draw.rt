@@ -1,31 +1,52 @@
-// A table drawn out into arrays, once, so that the calculation copies no table: a row of four numbers for each section, its outer resources, and
-// where the sections stand that a calculation goes over.
-// Entries past the count are not read. Assumes nothing.
-ghost use Rattle.std.specs.Prelude.{◌≡◌, ◌<◌, ◌≤◌};
+// A table that is accepted, drawn out once for all that is calculated from it: with the outer resources of each section, and where the sections stand
+// that a calculation goes over. Entries past the count are not read. Assumes nothing.
+ghost use Rattle.std.specs.Prelude.{◌≡◌, ℕ, ◌<◌, get_or, IfSome};
+ghost use Rattle.std.proofs.Math.Option.{none};
 ghost use Rattle.bound.specs.Sets.{task_numbers, resource_numbers};
-ghost use Rattle.bound.specs.Table.{section_numbers};
-ghost use Rattle.bound.specs.Computed.{resources_of, sets_of, ordinal_of_parent, row_of, rows_of, around_in, outers_in, on_span, in_span, widened, Spanned, Ranged};
+ghost use Rattle.bound.specs.Table.{section_numbers, outer, table_refusal};
+ghost use Rattle.bound.specs.Computed.{no_bits, resources_of, on_span, in_span, widened, Spanned, Laid, Laid-prop};
 
-use crate::{Parent, SECTIONS, Section, Sections, sets};
+use crate::{Resources, SECTIONS, Sections, Span};
 
-// The numbers of a row.
-pub(crate) const TASK: usize = 0;
-
-pub(crate) const RESOURCE: usize = 1;
-
-pub(crate) const LENGTH: usize = 2;
-
-pub(crate) const PARENT: usize = 3;
-
-// A span for each task and resource, then one for each section and one for none.
+// A span for each task and resource, then one for no section and one for each section.
 pub(crate) const SPANS: usize = 109;
 
 const IN_SPANS: usize = 96;
 
-// The numbers of a span.
-pub(crate) const FROM: usize = 0;
+impl Span {
+    // The span with section i at its end.
+    fn widened(self, i: usize) -> Span
+        requires { i < section_numbers }
+        ensures { result ≡ widened self i }
+    {
+        Span {
+            from: if self.end == 0 { i } else { self.from },
+            end: i + 1,
+        }
+    }
+}
 
-pub(crate) const END: usize = 1;
+// No calculation looks at a section outside the span that it asks for (`Spans.spans_done`, `Skips`).
+#[derive(Drop)]
+pub(crate) struct Drawing {
+    pub sections: Sections,
+    pub outers: [Resources; SECTIONS],
+    pub spans: [Span; SPANS],
+    ghost laid: { Laid sections outers spans } by { Laid-prop sections outers spans },
+}
+
+impl Drawing {
+    pub(crate) fn of(sections: Sections) -> Drawing
+        requires { table_refusal sections ≡ none }
+        ensures { result.sections ≡ sections }
+    {
+        Drawing {
+            sections,
+            outers: outers(&sections),
+            spans: spans(&sections),
+        }
+    }
+}
 
 // The number of the span of a task's sections on a resource. `small` follows from `is`, and saves every caller the proof of its index; so below.
 pub(crate) fn on_span(task: usize, resource: usize) -> usize
@@ -36,104 +57,59 @@ pub(crate) fn on_span(task: usize, resource: usize) -> usize
     task * 16 + resource
 }
 
-// The number of the span of the sections directly in the section of an ordinal.
-pub(crate) fn in_span(ordinal: usize) -> usize
-    requires { ordinal ≤ section_numbers }
-    ensures is { result ≡ in_span ordinal }
+// The number of the span of the sections directly in a section, or in none.
+pub(crate) fn in_span(parent: Option<u16>) -> usize
+    requires { IfSome parent (λ p. p < section_numbers) }
+    ensures is { result ≡ in_span parent }
     ensures small { result < 109 }
 {
-    IN_SPANS + ordinal
-}
-
-// The ordinal of a section's parent: its number and one, or 0 for none.
-fn ordinal(parent: Parent) -> usize
-    ensures { result ≡ ordinal_of_parent parent }
-{
     match parent {
-        Parent::Outermost => 0,
-        Parent::Inside(p) => p as usize + 1,
+        None => IN_SPANS,
+        Some(p) => IN_SPANS + 1 + p as usize,
     }
 }
 
-fn row(section: Section) -> [usize; 4]
-    ensures { result ≡ row_of section }
+// The outer resources of section i, from those of the sections before it: a parent comes before its children.
+fn outer_of(s: &Sections, outers: &[Resources; SECTIONS], i: usize) -> Resources
+    requires accepted { table_refusal s.now ≡ none }
+    requires there { i < s.now.count }
+    requires drawn { (j : ℕ) → j < i → resources_of (get_or outers.now j no_bits).bits ≡ outer s.now j }
+    ensures { resources_of result.bits ≡ outer s.now i }
 {
-    let task = section.task.0 as usize;
-    let resource = section.resource as usize;
-    let length = section.length as usize;
-    let parent = section.parent;
-    [task, resource, length, ordinal(parent)]
-}
-
-// A row for each section of the table (`Drawing.rows_drawn`).
-pub(crate) fn rows(s: Sections) -> [[usize; 4]; SECTIONS]
-    requires { s.count ≤ section_numbers }
-    ensures { result ≡ rows_of s }
-{
-    let count = s.count as usize;
-    let empty = [0usize; 4];
-    let mut drawn = [empty; SECTIONS];
-    for i in 0..count {
-        let section = s.section[i];
-        drawn[i] = row(section);
+    match s.section[i].parent {
+        None => Resources::NONE,
+        Some(p) => {
+            let p = p as usize;
+            outers[p].with(s.section[p].resource as usize)
+        }
     }
-    drawn
 }
 
-// The resources around whatever stands in the section of the ordinal: its own and those around it.
-fn around(
-    rows: &[[usize; 4]; SECTIONS],
-    outers: &[u16; SECTIONS],
-    count: usize,
-    ordinal: usize,
-) -> u16
-    requires { Ranged rows.now count × (ordinal ≤ count) }
-    ensures { resources_of result ≡ around_in rows.now (sets_of outers.now) ordinal }
+fn outers(s: &Sections) -> [Resources; SECTIONS]
+    requires { table_refusal s.now ≡ none }
+    ensures { (i : ℕ) → i < s.now.count → resources_of (get_or result i no_bits).bits ≡ outer s.now i }
 {
-    if ordinal == 0 {
-        return 0;
-    }
-    let parent = ordinal - 1;
-    sets::with_resource(outers[parent], rows[parent][RESOURCE])
-}
-
-// The outer resources of each section (`Drawing.outers_shown`). A parent comes before its children, so its own are drawn already.
-pub(crate) fn outers(rows: &[[usize; 4]; SECTIONS], count: usize) -> [u16; SECTIONS]
-    requires { Ranged rows.now count }
-    ensures { sets_of result ≡ outers_in rows.now count }
-{
-    let mut drawn = [0; SECTIONS];
-    for i in 0..count {
-        let next = around(rows, &drawn, count, rows[i][PARENT]);
-        drawn[i] = next;
+    let mut drawn = [Resources::NONE; SECTIONS];
+    // one by one, and not by from_fn: each is made of those before it
+    for i in 0..s.count as usize {
+        drawn[i] = outer_of(s, &drawn, i);
     }
     drawn
 }
 
-// A span with section i at its end.
-fn widened(span: [usize; 2], i: usize) -> [usize; 2]
-    requires { i < section_numbers }
-    ensures { result ≡ widened span i }
+fn spans(s: &Sections) -> [Span; SPANS]
+    requires { table_refusal s.now ≡ none }
+    ensures { Spanned s.now result }
 {
-    if span[END] == 0 {
-        return [i, i + 1];
-    }
-    [span[FROM], i + 1]
-}
-
-// Where the sections of a task on a resource stand, or those directly in the section of an ordinal: the first number and the end of the numbers.
-// No calculation looks at a section outside the span that it asks for (`Spans.spans_done`, `Skips`).
-pub(crate) fn spans(rows: &[[usize; 4]; SECTIONS], count: usize) -> [[usize; 2]; SPANS]
-    requires { Ranged rows.now count }
-    ensures { Spanned rows.now result count }
-{
-    let empty = [0; 2];
+    let empty = Span { from: 0, end: 0 };
     let mut drawn = [empty; SPANS];
-    for i in 0..count {
-        let on = on_span(rows[i][TASK], rows[i][RESOURCE]);
-        drawn[on] = widened(drawn[on], i);
-        let inside = in_span(rows[i][PARENT]);
-        drawn[inside] = widened(drawn[inside], i);
+    // by numbers, which are what a span is made of
+    for i in 0..s.count as usize {
+        let section = s.section[i];
+        let on = on_span(section.task.0 as usize, section.resource as usize);
+        drawn[on] = drawn[on].widened(i);
+        let inside = in_span(section.parent);
+        drawn[inside] = drawn[inside].widened(i);
     }
     drawn
 }

@@ -1,5 +1,5 @@
-// The interference bound (rule 12): its table of sections, its answer, and what the calculation hands on. What the bound is stands in specs/; the
-// functions stand in the modules. Assumes nothing.
+// The interference bound (rule 12): its table of sections and its answer. What the bound is stands in specs/; the functions stand in the modules.
+// Assumes nothing.
 #![tactic(auto)]
 
 pub mod answer;
@@ -18,20 +18,22 @@ pub const SECTIONS: usize = 12;
 // The longest section, and the largest allowance.
 pub const MILLION: u32 = 1000000;
 
-// Where a section stands: in none, or directly in the section of that number.
-#[derive(Clone, Copy)]
-pub enum Parent {
-    Outermost,
-    Inside(u16),
-}
-
+// `parent` is where the section stands: in none, or directly in the section of that number.
 #[derive(Clone, Copy)]
 pub struct Section {
     pub task: TaskNo,
     pub resource: u16,
     pub length: u32,
-    pub parent: Parent,
+    pub parent: Option<u16>,
 }
+
+// A place of a table that holds no section.
+pub const NO_SECTION: Section = Section {
+    task: TaskNo(0),
+    resource: 0,
+    length: 0,
+    parent: None,
+};
 
 // Entries past `count` are not read.
 #[derive(Clone, Copy)]
@@ -41,16 +43,30 @@ pub struct Sections {
     pub section: [Section; SECTIONS],
 }
 
-// The bound and the weighings spent on it, or a refusal's number.
+// The bound and the weighings spent on it.
 #[derive(Clone, Copy)]
-pub enum Bounded {
-    Bound(u64, u32),
-    Refused(u16),
+pub struct Bound {
+    pub value: u64,
+    pub weighings: u32,
 }
 
-// A value, the ordinal of the section that gave it (its number and one, or 0 for none), and the allowance left; or the weighings exceeded it.
+// A set of resources, a bit for each number.
 #[derive(Clone, Copy)]
-pub enum Tally {
-    Of(u64, usize, u32),
-    Exceeded,
+pub(crate) struct Resources {
+    pub bits: u16,
+}
+
+// Where the sections stand that a calculation goes over: the first number and the end of the numbers.
+#[derive(Clone, Copy)]
+pub(crate) struct Span {
+    pub from: usize,
+    pub end: usize,
+}
+
+// A value, the section that gave it if one did, and the allowance left. None in place of a tally says that the weighings exceeded the allowance.
+#[derive(Clone, Copy)]
+pub(crate) struct Tally {
+    pub value: u64,
+    pub giver: Option<usize>,
+    pub left: u32,
 }

@@ -1,45 +1,47 @@
 // Sets of tasks, a test for each number, and of resources, a bit for each (laws of `Masks`). Assumes nothing.
-ghost use Rattle.std.specs.Prelude.{◌≡◌, ◌<◌};
-ghost use Rattle.bound.specs.Sets.{task_numbers, resource_numbers, with, without, joined, meets};
+ghost use Rattle.std.specs.Prelude.{◌≡◌, ◌<◌, set};
+ghost use Rattle.bound.specs.Sets.{task_numbers, resource_numbers, with, joined, meets};
 ghost use Rattle.bound.specs.Computed.{resources_of};
 
-use crate::TASKS;
+use crate::{Resources, TASKS};
 
-pub(crate) fn with_task(set: &[bool; TASKS], task: usize) -> [bool; TASKS]
+// The set of tasks with the task in it, or without it.
+pub(crate) fn put(mut tasks: [bool; TASKS], task: usize, there: bool) -> [bool; TASKS]
     requires { task < task_numbers }
-    ensures { result ≡ with set.now task }
+    ensures { result ≡ set tasks task there }
 {
-    let mut wider = *set;
-    wider[task] = true;
-    wider
+    tasks[task] = there;
+    tasks
 }
 
-pub(crate) fn without_task(set: &[bool; TASKS], task: usize) -> [bool; TASKS]
-    requires { task < task_numbers }
-    ensures { result ≡ without set.now task }
-{
-    let mut fewer = *set;
-    fewer[task] = false;
-    fewer
-}
+impl Resources {
+    pub const NONE: Resources = Resources { bits: 0 };
 
-pub(crate) fn with_resource(set: u16, resource: usize) -> u16
-    requires { resource < resource_numbers }
-    ensures { resources_of result ≡ with (resources_of set) resource }
-{
-    (1 << resource) | set
-}
+    #[tactic(auto, using(crate::proofs::Masks::mask_with))]
+    pub(crate) fn with(self, resource: usize) -> Resources
+        requires { resource < resource_numbers }
+        ensures { resources_of result.bits ≡ with (resources_of self.bits) resource }
+    {
+        Resources {
+            bits: (1 << resource) | self.bits,
+        }
+    }
 
-// The resources that are in either set.
-pub(crate) fn joined(xs: u16, ys: u16) -> u16
-    ensures { resources_of result ≡ joined (resources_of xs) (resources_of ys) }
-{
-    xs | ys
-}
+    // The resources that are in either set.
+    #[tactic(auto, using(crate::proofs::Masks::mask_joined))]
+    pub(crate) fn joined(self, other: Resources) -> Resources
+        ensures { resources_of result.bits ≡ joined (resources_of self.bits) (resources_of other.bits) }
+    {
+        Resources {
+            bits: self.bits | other.bits,
+        }
+    }
 
-// Whether some resource is in both sets.
-pub(crate) fn meets(xs: u16, ys: u16) -> bool
-    ensures { result ≡ meets (resources_of xs) (resources_of ys) }
-{
-    xs & ys != 0
+    // Whether some resource is in both sets.
+    #[tactic(auto, using(crate::proofs::Masks::mask_meets))]
+    pub(crate) fn meets(self, other: Resources) -> bool
+        ensures { result ≡ meets (resources_of self.bits) (resources_of other.bits) }
+    {
+        self.bits & other.bits != 0
+    }
 }

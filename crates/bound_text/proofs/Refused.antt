@@ -1,28 +1,25 @@
--- A verdict against a number, and a turn of the search for its line. Assumes nothing.
-use Rattle.std.specs.Prelude.{if◌then◌else◌}
+-- A refusal against a number, and a turn of the search for its line. Assumes nothing.
+use Rattle.std.specs.Prelude.{if◌then◌else◌, Some}
 use mathlib.Core.Path.{◌≡◌, sym, ap, ◌∙◌}
 use mathlib.Core.Bool.{Bool, true, false}
+use mathlib.Core.Option.{none, some}
 use Prim.Native.Nat.{ℕ, suc, ◌+◌, ◌-◌, ◌<◌, ◌≤◌}
 use native.Mathlib.Numerals.{add-one}
 use native.Mathlib.Omega.{arith}
 use lib.Dec.{eqb}
 use lib.ListN.{get_or}
-use Rattle.model.specs.declared.Verdict.{Verdict}
-use Rattle.model.specs.declared.Verdict.TheVariants.{Accepted, Refused}
-use Rattle.model.specs.Verdicts.{verdict}
-use Rattle.model.proofs.Refused.{verdict_none, verdict_some}
 use Rattle.bound.specs.Table.{table_refusal}
 use Rattle.bound_text.specs.declared.Reading.{Reading}
 use Rattle.bound_text.specs.Faults.{table_to, is_refused, line_from, faulty_line}
 
-module _ (r : Reading) (number count : ℕ) (v : Verdict) (told : v ≡ verdict (table_refusal (table_to r count))) where
-  pub accepted_is : v ≡ Accepted → false ≡ is_refused r number count
+module _ (r : Reading) (number count : ℕ) where
+  pub passes : table_refusal (table_to r count) ≡ none → false ≡ is_refused r number count
   unfolding is_refused
-  accepted_is e = rw (verdict_none (table_refusal (table_to r count)) (sym told ∙ e))
+  passes e = rw e
 
-  pub refused_is : (n : ℕ) → v ≡ Refused n → eqb n number ≡ is_refused r number count
+  pub told : (n : ℕ) → table_refusal (table_to r count) ≡ some n → eqb n number ≡ is_refused r number count
   unfolding is_refused
-  refused_is n e = rw (verdict_some (table_refusal (table_to r count)) n (sym told ∙ e))
+  told n e = rw e
 
 module _ (r : Reading) (number : ℕ) where
   pub first_told : (b : Bool) → b ≡ is_refused r number 0 → b ≡ true → r.first ≡ faulty_line r number
@@ -34,11 +31,11 @@ module _ (r : Reading) (number : ℕ) where
   search_begins b e y = rw (← e, y)
 
   module _ (i : ℕ) (b : Bool) (e : b ≡ is_refused r number (i + 1)) where
-    opened : i < 12 → line_from r number (12 - i) i ≡ (if b then get_or r.lines i 0 else line_from r number (12 - (i + 1)) (i + 1))
+    opened : i < 12 → line_from r number (12 - i) i ≡ (if b then Some (get_or r.lines i 0) else line_from r number (12 - (i + 1)) (i + 1))
     unfolding line_from
     opened l = ap (λ k. line_from r number k i) (let d : 12 - i ≡ suc (12 - (i + 1)) = omega arith in d) ∙ rw (e, add-one)
 
-    pub line_told : i < 12 → b ≡ true → get_or r.lines i 0 ≡ line_from r number (12 - i) i
+    pub line_told : i < 12 → b ≡ true → Some (get_or r.lines i 0) ≡ line_from r number (12 - i) i
     line_told l y = sym (opened l ∙ rw y)
 
     pub search_goes : i < 12 → b ≡ false → line_from r number (12 - (i + 1)) (i + 1) ≡ line_from r number (12 - i) i

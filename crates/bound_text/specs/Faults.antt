@@ -1,5 +1,6 @@
 -- The table that a text was read as, and the line at which it is refused. Assumes nothing.
-use Rattle.std.specs.Prelude.{Bool, false, ℕ, zero, suc, eqb, get_or, if◌then◌else◌}
+use Rattle.std.specs.Prelude.{Bool, false, ℕ, zero, suc, eqb, get_or, if◌then◌else◌, Some}
+use Rattle.std.specs.Prelude as prelude
 use Rattle.std.proofs.Math.Option.{Option, none, some}
 use Rattle.bound.specs.declared.Sections.{Sections}
 use Rattle.bound.specs.Table.{section_numbers, table_refusal}
@@ -17,11 +18,15 @@ refused_for number (some n) = eqb n number
 unfoldable pub is_refused : Reading → ℕ → ℕ → Bool
 is_refused r number count = refused_for number (table_refusal (table_to r count))
 
+-- the number of a line, if there is one
+abbrev pub Line : Type 0
+Line = prelude.Option ℕ
+
 -- the line of the first section from i on, of `left`, with which the table is refused for the number; else that of the thirteenth
-unfoldable pub line_from : Reading → ℕ → ℕ → ℕ → ℕ
+unfoldable pub line_from : Reading → ℕ → ℕ → ℕ → Line
 line_from r number zero i = r.surplus
-line_from r number (suc left) i = if is_refused r number (suc i) then get_or r.lines i 0 else line_from r number left (suc i)
+line_from r number (suc left) i = if is_refused r number (suc i) then Some (get_or r.lines i 0) else line_from r number left (suc i)
 
 -- if it is refused without sections, the line of the number of tasks
-unfoldable pub faulty_line : Reading → ℕ → ℕ
+unfoldable pub faulty_line : Reading → ℕ → Line
 faulty_line r number = if is_refused r number 0 then r.first else line_from r number section_numbers 0

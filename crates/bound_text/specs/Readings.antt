@@ -1,16 +1,14 @@
 -- What a table's text is read as: what the end of a line does to what was read before it, and the whole text byte by byte. Assumes nothing.
-use Rattle.std.specs.Prelude.{Bool, true, false, not, List, ℕ, ◌+◌, ltb, eqb, length, get_or, set, replicate, if◌then◌else◌}
+use Rattle.std.specs.Prelude.{Bool, true, false, not, List, ℕ, ◌+◌, ltb, eqb, length, get_or, set, replicate, if◌then◌else◌, Option, Some, None, is_none}
 use Rattle.laws.specs.Loops.{fold_to}
-use Rattle.bound.specs.declared.Parent.{Parent}
-use Rattle.bound.specs.declared.Parent.TheVariants.{Outermost, Inside}
 use Rattle.bound.specs.declared.Section.{Section}
-use Rattle.bound.specs.Table.{section_numbers, no_section}
+use Rattle.bound.specs.Table.{Parent, section_numbers, no_section}
 use Rattle.bound_text.specs.declared.Line.{Line}
 use Rattle.bound_text.specs.declared.Reading.{Reading}
 use Rattle.bound_text.specs.declared.State.{State}
 use Rattle.bound_text.specs.Lines.{field_numbers, greatest, no_line, with_byte}
 
-abbrev pub reading_said : ℕ → ℕ → Bool → ℕ → List Section → List ℕ → ℕ → ℕ → Reading
+abbrev pub reading_said : ℕ → Option ℕ → Bool → ℕ → List Section → List ℕ → Option ℕ → ℕ → Reading
 reading_said tasks first clear count section lines surplus line =
     record {
       tasks = tasks;
@@ -24,7 +22,7 @@ reading_said tasks first clear count section lines surplus line =
     }
 
 abbrev pub no_reading : Reading
-no_reading = reading_said 0 0 true 0 (replicate section_numbers no_section) (replicate section_numbers 0) 0 1
+no_reading = reading_said 0 None true 0 (replicate section_numbers no_section) (replicate section_numbers 0) None 1
 
 -- the greatest number of 16 bits
 abbrev pub greatest_short : ℕ
@@ -35,7 +33,7 @@ abbrev pub short : ℕ → ℕ
 short n = if ltb n greatest_short then n else greatest_short
 
 abbrev pub parent_said : Line → Parent
-parent_said l = if l.outermost then Outermost else Inside (short (get_or l.value 3 0))
+parent_said l = if l.outermost then None else Some (short (get_or l.value 3 0))
 
 abbrev pub section_said : Line → Section
 section_said l =
@@ -60,7 +58,7 @@ advanced r =
 -- the first line that is not blank: the number of tasks
 unfoldable pub with_tasks : Reading → Line → Reading
 with_tasks r l =
-    if eqb l.fields 1 then reading_said (short (get_or l.value 0 0)) r.line r.clear r.count r.section r.lines r.surplus r.line
+    if eqb l.fields 1 then reading_said (short (get_or l.value 0 0)) (Some r.line) r.clear r.count r.section r.lines r.surplus r.line
     else lost r
 
 -- each other: a section, kept if it is one of the first twelve; of those past them the line of the first is
@@ -70,7 +68,7 @@ with_section r l =
     let lines = set r.lines r.count r.line in
     if not (eqb l.fields field_numbers) then lost r
     else if ltb section_numbers r.count then r
-    else if eqb r.count section_numbers then reading_said r.tasks r.first r.clear (section_numbers + 1) r.section r.lines r.line r.line
+    else if eqb r.count section_numbers then reading_said r.tasks r.first r.clear (section_numbers + 1) r.section r.lines (Some r.line) r.line
     else reading_said r.tasks r.first r.clear (r.count + 1) sections lines r.surplus r.line
 
 unfoldable pub ended : Reading → Line → Reading
@@ -78,7 +76,7 @@ ended r l =
     if not r.clear then r
     else if not l.clear then lost r
     else if eqb l.fields 0 then r
-    else if eqb r.first 0 then with_tasks r l
+    else if is_none r.first then with_tasks r l
     else with_section r l
 
 -- a byte of the text: 10 ends a line
@@ -98,8 +96,8 @@ read_from text =
 unfoldable pub byte_at : List ℕ → ℕ → Line → Line
 byte_at text i l = with_byte l (get_or text i 0)
 
--- a number by itself, or 0 for any other text
-unfoldable pub number_from : List ℕ → ℕ
+-- a number by itself; any other text is none
+unfoldable pub number_from : List ℕ → Option ℕ
 number_from text =
     let l = fold_to (length text) (byte_at text) no_line in
-    if not l.clear then 0 else if not (eqb l.fields 1) then 0 else get_or l.value 0 0
+    if not l.clear then None else if not (eqb l.fields 1) then None else Some (get_or l.value 0 0)

@@ -2,122 +2,131 @@
 ghost use Rattle.std.specs.Prelude.{◌≡◌, ◌<◌};
 ghost use Rattle.bound_text.specs.Lines.{no_line, unclear, appended, opened, longer, with_digit, with_dash, with_byte};
 
-use crate::{FIELDS, GREATEST, Line};
+use crate::{FIELDS, Line};
 
 // The tenth of the greatest number: below it there is room for a digit more.
-const TENTH: u32 = GREATEST / 10;
+const TENTH: u32 = u32::MAX / 10;
 
-pub(crate) fn fresh() -> Line
-    ensures { result ≡ no_line }
-{
-    Line {
-        fields: 0,
-        value: [0; FIELDS],
-        inside: false,
-        outermost: false,
-        clear: true,
-        comment: false,
-    }
-}
-
-fn unclear(mut line: Line) -> Line
-    ensures { result ≡ unclear line }
-{
-    line.clear = false;
-    line
-}
-
-// A number with one digit more, or the greatest number that there is.
+// A number with one digit more, or the greatest number that there is. Not by saturating_mul: `Lines.appended`, which the format promises, takes every
+// number from the tenth on for the greatest.
 fn appended(number: u32, digit: u32) -> u32
     requires { digit < 10 }
     ensures { result ≡ appended number digit }
 {
     if number < TENTH {
-        return number * 10 + digit;
+        number * 10 + digit
+    } else {
+        u32::MAX
     }
-    GREATEST
 }
 
-// The first digit of a field.
-fn opened(mut line: Line, digit: u32) -> Line
-    ensures { result ≡ opened line digit }
-{
-    let fields = line.fields;
-    if 4 <= fields {
-        return unclear(line);
+impl Line {
+    pub(crate) fn fresh() -> Line
+        ensures { result ≡ no_line }
+    {
+        Line {
+            fields: 0,
+            value: [0; FIELDS],
+            inside: false,
+            outermost: false,
+            clear: true,
+            comment: false,
+        }
     }
-    line.value[fields as usize] = digit;
-    line.fields = fields + 1;
-    line.inside = true;
-    line
-}
 
-// A further digit of a field.
-fn longer(mut line: Line, digit: u32) -> Line
-    requires { digit < 10 }
-    ensures { result ≡ longer line digit }
-{
-    let fields = line.fields;
-    if fields == 0 {
-        return unclear(line);
+    fn unclear(self) -> Line
+        ensures { result ≡ unclear self }
+    {
+        Line {
+            clear: false,
+            ..self
+        }
     }
-    if 4 < fields {
-        return unclear(line);
-    }
-    let last = fields as usize - 1;
-    let number = line.value[last];
-    line.value[last] = appended(number, digit);
-    line
-}
 
-fn with_digit(line: Line, digit: u32) -> Line
-    requires { digit < 10 }
-    ensures { result ≡ with_digit line digit }
-{
-    if line.outermost {
-        return unclear(line);
+    // The first digit of a field.
+    #[tactic(auto, unfolding(crate::specs::Lines::opened))]
+    fn opened(self, digit: u32) -> Line
+        ensures { result ≡ opened self digit }
+    {
+        let fields = self.fields as usize;
+        if FIELDS <= fields {
+            return self.unclear();
+        }
+        let mut value = self.value;
+        value[fields] = digit;
+        Line {
+            fields: self.fields + 1,
+            value,
+            inside: true,
+            ..self
+        }
     }
-    if line.inside {
-        return longer(line, digit);
-    }
-    opened(line, digit)
-}
 
-// A dash is a fourth field by itself.
-fn with_dash(mut line: Line) -> Line
-    ensures { result ≡ with_dash line }
-{
-    if line.inside {
-        return unclear(line);
+    // A further digit of the last field.
+    #[tactic(auto, unfolding(crate::specs::Lines::longer))]
+    fn longer(self, digit: u32) -> Line
+        requires { digit < 10 }
+        ensures { result ≡ longer self digit }
+    {
+        let fields = self.fields as usize;
+        if fields == 0 || FIELDS < fields {
+            return self.unclear();
+        }
+        let mut value = self.value;
+        value[fields - 1] = appended(value[fields - 1], digit);
+        Line { value, ..self }
     }
-    if line.fields != 3 {
-        return unclear(line);
-    }
-    line.fields = 4;
-    line.outermost = true;
-    line
-}
 
-// The line with another byte, which does not end it.
-pub(crate) fn with_byte(mut line: Line, byte: u8) -> Line
-    ensures { result ≡ with_byte line byte }
-{
-    if line.comment {
-        return line;
+    #[tactic(auto, unfolding(crate::specs::Lines::with_digit))]
+    fn with_digit(self, digit: u32) -> Line
+        requires { digit < 10 }
+        ensures { result ≡ with_digit self digit }
+    {
+        if self.outermost {
+            return self.unclear();
+        }
+        if self.inside {
+            self.longer(digit)
+        } else {
+            self.opened(digit)
+        }
     }
-    if byte == b'#' {
-        line.comment = true;
-        return line;
+
+    // A dash is a fourth field by itself.
+    #[tactic(auto, unfolding(crate::specs::Lines::with_dash))]
+    fn with_dash(self) -> Line
+        ensures { result ≡ with_dash self }
+    {
+        if self.inside || self.fields != 3 {
+            return self.unclear();
+        }
+        Line {
+            fields: 4,
+            outermost: true,
+            ..self
+        }
     }
-    if (b'0' <= byte) & (byte <= b'9') {
-        return with_digit(line, byte as u32 - 48);
+
+    // The line with another byte, which does not end it.
+    #[tactic(auto, unfolding(crate::specs::Lines::with_byte))]
+    pub(crate) fn with_byte(self, byte: u8) -> Line
+        ensures { result ≡ with_byte self byte }
+    {
+        if self.comment {
+            return self;
+        }
+        match byte {
+            b'#' => Line {
+                comment: true,
+                ..self
+            },
+            b'0'..=b'9' => self.with_digit(u32::from(byte - b'0')),
+            b'-' => self.with_dash(),
+            b' ' | b'\t' | b'\r' => Line {
+                inside: false,
+                ..self
+            },
+            _ => self.unclear(),
+        }
     }
-    if byte == b'-' {
-        return with_dash(line);
-    }
-    if (byte == b' ') | (byte == b'\t') | (byte == b'\r') {
-        line.inside = false;
-        return line;
-    }
-    unclear(line)
 }

@@ -3,13 +3,13 @@ ghost use Rattle.std.specs.Prelude.{◌≡◌};
 ghost use Rattle.bound_text.specs.Faults.{table_to, is_refused, faulty_line};
 
 use crate::Reading;
-use bound::{SECTIONS, Sections, table};
-use model::Verdict;
+use bound::{Sections, table};
 
 // The table of the first sections that were read.
 pub fn table_to(reading: Reading, count: u16) -> Sections
     ensures { result ≡ table_to reading count }
 {
+    // By a variable: no proof is written of an array's field put straight into a literal.
     let section = reading.section;
     Sections {
         tasks: reading.tasks,
@@ -22,25 +22,23 @@ pub fn table_to(reading: Reading, count: u16) -> Sections
 fn is_refused(reading: Reading, number: u16, count: u16) -> bool
     ensures { result ≡ is_refused reading number count }
 {
-    let verdict = table::table_refusal(table_to(reading, count));
-    match verdict {
-        Verdict::Accepted => false,
-        Verdict::Refused(n) => n == number,
+    match table::table_refusal(table_to(reading, count)) {
+        Ok(()) => false,
+        Err(refusal) => u16::from(refusal) == number,
     }
 }
 
 // The line for which a table is refused with the number: that of the number of tasks, of the first section with which it is, or of the
 // thirteenth.
-pub fn faulty_line(reading: Reading, number: u16) -> u32
+pub fn faulty_line(reading: Reading, number: u16) -> Option<u32>
     ensures { result ≡ faulty_line reading number }
 {
     if is_refused(reading, number, 0) {
         return reading.first;
     }
-    let lines = reading.lines;
-    for i in 0..SECTIONS {
+    for (i, line) in reading.lines.iter().enumerate() {
         if is_refused(reading, number, i as u16 + 1) {
-            return lines[i];
+            return Some(*line);
         }
     }
     reading.surplus

@@ -11,13 +11,8 @@ pub mod read;
 // The fields of a section's line.
 pub const FIELDS: usize = 4;
 
-// The greatest numbers of 32 and of 16 bits: a greater one counts as these.
-pub const GREATEST: u32 = 4294967295;
-
-pub const GREATEST_SHORT: u16 = 65535;
-
 // What a line has shown so far: how many fields and their numbers, whether the last byte stands in a number, whether the last field is a dash,
-// whether the line is understood, and whether a comment has begun.
+// whether the line is understood, and whether a comment has begun. The numbers stand in an array with their count beside it, since there is no heap.
 #[derive(Clone, Copy)]
 pub struct Line {
     pub fields: u16,
@@ -28,18 +23,18 @@ pub struct Line {
     pub comment: bool,
 }
 
-// What the lines have shown so far: `line` is the number of the line that is being read, from 1, or of the first that is not understood;
-// `first` is that of the line with the number of tasks, or 0; `lines` are those of the sections; `surplus` is that of the
-// thirteenth, or 0.
+// What the lines have shown so far: `line` is the number of the line that is being read, from 1, or, where they are no longer `clear`, of the first that
+// is not understood; `first` is that of the line with the number of tasks; `lines` are those of the sections, apart from these, since the sections
+// are a table's array; `surplus` is that of the thirteenth section.
 #[derive(Clone, Copy)]
 pub struct Reading {
     pub tasks: u16,
-    pub first: u32,
+    pub first: Option<u32>,
     pub clear: bool,
     pub count: u16,
     pub section: [Section; SECTIONS],
     pub lines: [u32; SECTIONS],
-    pub surplus: u32,
+    pub surplus: Option<u32>,
     pub line: u32,
 }
 

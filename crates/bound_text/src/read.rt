@@ -2,187 +2,188 @@
 ghost use Rattle.std.specs.Prelude.{◌≡◌};
 ghost use Rattle.bound_text.specs.Readings.{no_reading, short, parent_said, section_said, lost, advanced, with_tasks, with_section, ended, taken, read_from, number_from};
 
-use crate::{GREATEST, GREATEST_SHORT, Line, Reading, State, bytes};
-use bound::{Parent, SECTIONS, Section};
+use crate::{Line, Reading, State};
+use bound::{NO_SECTION, SECTIONS, Section};
 use model::TaskNo;
-
-fn nothing() -> Reading
-    ensures { result ≡ no_reading }
-{
-    let none = Section {
-        task: TaskNo(0),
-        resource: 0,
-        length: 0,
-        parent: Parent::Outermost,
-    };
-    Reading {
-        tasks: 0,
-        first: 0,
-        clear: true,
-        count: 0,
-        section: [none; SECTIONS],
-        lines: [0; SECTIONS],
-        surplus: 0,
-        line: 1,
-    }
-}
 
 // A number as the table holds it, or the greatest that it can hold.
 fn short(number: u32) -> u16
     ensures { result ≡ short number }
 {
-    if number < GREATEST_SHORT as u32 {
-        return number as u16;
-    }
-    GREATEST_SHORT
+    u16::try_from(number).unwrap_or(u16::MAX)
 }
 
-fn parent(line: Line) -> Parent
-    ensures { result ≡ parent_said line }
-{
-    if line.outermost {
-        return Parent::Outermost;
+impl Line {
+    fn parent(self) -> Option<u16>
+        ensures { result ≡ parent_said self }
+    {
+        if self.outermost {
+            return None;
+        }
+        Some(short(self.value[3]))
     }
-    Parent::Inside(short(line.value[3]))
-}
 
-fn section(line: Line) -> Section
-    ensures { result ≡ section_said line }
-{
-    let parent = parent(line);
-    let task = TaskNo(short(line.value[0]));
-    let resource = short(line.value[1]);
-    Section {
-        task,
-        resource,
-        length: line.value[2],
-        parent,
+    fn section(self) -> Section
+        ensures { result ≡ section_said self }
+    {
+        Section {
+            task: TaskNo(short(self.value[0])),
+            resource: short(self.value[1]),
+            length: self.value[2],
+            parent: self.parent(),
+        }
     }
 }
 
-// The line is not understood: its number stays.
-fn lost(mut reading: Reading) -> Reading
-    ensures { result ≡ lost reading }
-{
-    reading.clear = false;
-    reading
+impl Reading {
+    fn nothing() -> Reading
+        ensures { result ≡ no_reading }
+    {
+        Reading {
+            tasks: 0,
+            first: None,
+            clear: true,
+            count: 0,
+            section: [NO_SECTION; SECTIONS],
+            lines: [0; SECTIONS],
+            surplus: None,
+            line: 1,
+        }
+    }
+
+    // The line is not understood: its number stays.
+    fn lost(self) -> Reading
+        ensures { result ≡ lost self }
+    {
+        Reading {
+            clear: false,
+            ..self
+        }
+    }
+
+    // The number of the next line, unless this one is not understood.
+    #[tactic(auto, unfolding(crate::specs::Readings::advanced))]
+    fn advanced(self) -> Reading
+        ensures { result ≡ advanced self }
+    {
+        if !self.clear {
+            return self;
+        }
+        Reading {
+            line: self.line.saturating_add(1),
+            ..self
+        }
+    }
+
+    #[tactic(auto, unfolding(crate::specs::Readings::with_tasks))]
+    fn with_tasks(self, line: Line) -> Reading
+        ensures { result ≡ with_tasks self line }
+    {
+        if line.fields != 1 {
+            return self.lost();
+        }
+        Reading {
+            tasks: short(line.value[0]),
+            first: Some(self.line),
+            ..self
+        }
+    }
+
+    // Another section. The thirteenth is counted and not kept, and those after it change nothing.
+    #[tactic(auto, unfolding(crate::specs::Readings::with_section))]
+    fn with_section(self, line: Line) -> Reading
+        ensures { result ≡ with_section self line }
+    {
+        if line.fields != 4 {
+            return self.lost();
+        }
+        let count = self.count as usize;
+        if SECTIONS < count {
+            return self;
+        }
+        if count == SECTIONS {
+            return Reading {
+                count: self.count + 1,
+                surplus: Some(self.line),
+                ..self
+            };
+        }
+        let mut section = self.section;
+        section[count] = line.section();
+        let mut lines = self.lines;
+        lines[count] = self.line;
+        Reading {
+            count: self.count + 1,
+            section,
+            lines,
+            ..self
+        }
+    }
+
+    // A line has ended: a blank one, the number of tasks, or the four fields of a section.
+    #[tactic(auto, unfolding(crate::specs::Readings::ended))]
+    fn ended(self, line: Line) -> Reading
+        ensures { result ≡ ended self line }
+    {
+        if !self.clear {
+            return self;
+        }
+        if !line.clear {
+            return self.lost();
+        }
+        if line.fields == 0 {
+            return self;
+        }
+        match self.first {
+            None => self.with_tasks(line),
+            Some(_) => self.with_section(line),
+        }
+    }
 }
 
-// The number of the next line, unless this one is not understood.
-fn advanced(mut reading: Reading) -> Reading
-    ensures { result ≡ advanced reading }
-{
-    let line = reading.line;
-    if !reading.clear {
-        return reading;
+impl State {
+    #[tactic(auto, unfolding(crate::specs::Readings::taken))]
+    fn taken(self, byte: u8) -> State
+        ensures { result ≡ taken byte self }
+    {
+        if byte == b'\n' {
+            return State {
+                reading: self.reading.ended(self.line).advanced(),
+                line: Line::fresh(),
+            };
+        }
+        State {
+            line: self.line.with_byte(byte),
+            ..self
+        }
     }
-    if line == GREATEST {
-        return reading;
-    }
-    reading.line = line + 1;
-    reading
-}
-
-fn with_tasks(mut reading: Reading, line: Line) -> Reading
-    ensures { result ≡ with_tasks reading line }
-{
-    let number = reading.line;
-    if line.fields != 1 {
-        return lost(reading);
-    }
-    reading.tasks = short(line.value[0]);
-    reading.first = number;
-    reading
-}
-
-// Another section. The thirteenth is counted and not kept, and those after it change nothing.
-fn with_section(mut reading: Reading, line: Line) -> Reading
-    ensures { result ≡ with_section reading line }
-{
-    if line.fields != 4 {
-        return lost(reading);
-    }
-    let count = reading.count;
-    let number = reading.line;
-    if 12 < count {
-        return reading;
-    }
-    if count == 12 {
-        reading.count = 13;
-        reading.surplus = number;
-        return reading;
-    }
-    let mut sections = reading.section;
-    sections[count as usize] = section(line);
-    reading.section = sections;
-    reading.lines[count as usize] = number;
-    reading.count = count + 1;
-    reading
-}
-
-// A line has ended: a blank one, the number of tasks, or the four fields of a section.
-fn ended(reading: Reading, line: Line) -> Reading
-    ensures { result ≡ ended reading line }
-{
-    if !reading.clear {
-        return reading;
-    }
-    if !line.clear {
-        return lost(reading);
-    }
-    if line.fields == 0 {
-        return reading;
-    }
-    if reading.first == 0 {
-        return with_tasks(reading, line);
-    }
-    with_section(reading, line)
-}
-
-fn taken(state: State, byte: u8) -> State
-    ensures { result ≡ taken byte state }
-{
-    let reading = state.reading;
-    let line = state.line;
-    if byte == b'\n' {
-        let reading = advanced(ended(reading, line));
-        let line = bytes::fresh();
-        return State { reading, line };
-    }
-    let line = bytes::with_byte(line, byte);
-    State { reading, line }
 }
 
 // What a table's text is read as.
 pub fn read(text: &[u8]) -> Reading
     ensures { result ≡ read_from text.now }
 {
-    let reading = nothing();
-    let line = bytes::fresh();
-    let mut state = State { reading, line };
-    for i in 0..text.len() {
-        let byte = text[i];
-        state = taken(state, byte);
+    let mut state = State {
+        reading: Reading::nothing(),
+        line: Line::fresh(),
+    };
+    for byte in text {
+        state = state.taken(*byte);
     }
-    let reading = state.reading;
-    let line = state.line;
-    ended(reading, line)
+    state.reading.ended(state.line)
 }
 
-// A number by itself, or 0 for any other text.
-pub fn number(text: &[u8]) -> u32
+// A number by itself. Any other text is none.
+pub fn number(text: &[u8]) -> Option<u32>
     ensures { result ≡ number_from text.now }
 {
-    let mut line = bytes::fresh();
-    for i in 0..text.len() {
-        let byte = text[i];
-        line = bytes::with_byte(line, byte);
+    let mut line = Line::fresh();
+    for byte in text {
+        line = line.with_byte(*byte);
     }
-    if !line.clear {
-        return 0;
+    if line.clear && line.fields == 1 {
+        Some(line.value[0])
+    } else {
+        None
     }
-    if line.fields != 1 {
-        return 0;
-    }
-    line.value[0]
 }

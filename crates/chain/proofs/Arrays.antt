@@ -1,21 +1,20 @@
 -- What the arrays have at each place; that links and walk come to the chain ends; and what each loop of the code reads. Assumes nothing.
 use Rattle.std.specs.Prelude.{if◌then◌else◌}
 use mathlib.Core.Path.{◌≡◌, refl, sym, ◌∙◌, ap, ap₂}
-use mathlib.Core.Bool.{Bool, true, false}
 use mathlib.Core.List.{List}
 use Prim.Native.Nat.{ℕ, zero, suc, ◌-◌, ◌<◌, ◌≤◌}
 use native.Mathlib.Numerals.{sub-one}
 use native.Mathlib.Omega.{arith}
 use lib.Dec.{ltb}
-use lib.ListN.{get_or}
+use lib.ListN.{length, get_or}
 use borrow.Author.Tests.{ltb-true, ltb-false}
 use Rattle.laws.proofs.Cases.{split}
 use Rattle.laws.proofs.Set.{set_same}
+use Rattle.laws.proofs.Made.{made_each}
 use Rattle.laws.proofs.Making.{made_at}
 use Rattle.model.specs.declared.TaskNo.{TaskNo}
-use Rattle.model.specs.declared.Server.{Server}
 use Rattle.model.specs.declared.State.{State}
-use Rattle.model.specs.State.{places, nobody, no_server, here, present, in_use, running, owner_no, resource_at, owner_of, next, chain_end, served, running_at}
+use Rattle.model.specs.State.{places, nobody, here, in_use, owner_of, next, chain_end, served, running_at}
 use Rattle.model.proofs.Chain.{owner_past, next_past, present_past, here_past, served_below}
 use Rattle.chain.specs.Arrays.{array_of, task_of, tasks_of, server_of, servers_of, owners_of, wanted, wanted_of, ends_of, runs_for, on_at, on_by}
 use Rattle.chain.specs.Computed.{number_at, numbers_of, at_or_nobody, link_at, links_by, end_step, end_by, ends_by}
@@ -161,33 +160,13 @@ unfolding end_by
 end_more links t zero r f e = absurd (f refl)
 end_more links t (suc left) r f e = e ∙ ap (λ k. end_step (end_by k links) links t) (sub-one (suc left))
 
--- what a turn of each loop stores at a number in use, for the code
-pub owner_read
-    : (st : State) (r : ℕ) (v : TaskNo)
-    → present st r ≡ true
-    → v ≡ record { 0 = (if in_use st.tasks (owner_no (resource_at st r).owner) then owner_no (resource_at st r).owner else nobody) }
-    → v ≡ task_of (owner_of st) r
-unfolding task_of owner_of here
-owner_read st r v p e = rw p e
+-- an array that has f i at each place i
+module _ (f : ℕ → ℕ) where
+  pub array_made : (ys : List ℕ) → length ys ≡ places → ((i : ℕ) → i < places → get_or ys i nobody ≡ f i) → ys ≡ array_of f
+  unfolding array_of
+  array_made ys long at = made_each places f nobody ys long at
 
-pub owner_none : (st : State) (r : ℕ) → present st r ≡ false → task_of (owner_of st) r ≡ record { 0 = nobody }
-unfolding task_of
-owner_none st r e = rw (owner_past st r e)
-
-module _ (servers : List Server) (count : ℕ) (ends : List TaskNo) (s : ℕ) where
-  pub on_read
-      : (v : TaskNo) (b : Bool)
-      → in_use count s ≡ true
-      → b ≡ running (get_or servers s no_server).phase
-      → v ≡ record { 0 = (if b then (get_or ends s (record { 0 = 0 })).0 else 16) }
-      → v ≡ task_of (on_at servers count ends) s
-  unfolding task_of on_at
-  on_read v b h p e = rw (h, ← p) e
-
-  pub on_none : in_use count s ≡ false → task_of (on_at servers count ends) s ≡ record { 0 = nobody }
-  unfolding task_of on_at
-  on_none h = rw h
-
-pub end_task : (links : List ℕ) (t end : ℕ) → end ≡ end_by places links t → ◌≡◌ {A = TaskNo} (record { 0 = end }) (task_of (end_by places links) t)
-unfolding task_of
-end_task links t end e = λ i. record { 0 = e i }
+  pub tasks_made
+      : (ys : List TaskNo) → length ys ≡ places → ((i : ℕ) → i < places → get_or ys i (record { 0 = nobody }) ≡ record { 0 = f i }) → ys ≡ tasks_of f
+  unfolding tasks_of task_of
+  tasks_made ys long at = made_each places (task_of f) (record { 0 = nobody }) ys long at

@@ -1,19 +1,26 @@
 // Who owns each resource, what each task waits for, and the links that these make (rule 3.1), as arrays. Entries that are not in use are not read.
 // Assumes nothing.
-ghost use Rattle.std.specs.Prelude.{◌≡◌, if◌then◌else◌};
-ghost use Rattle.chain.specs.Arrays.{owners_of, wanted_of};
-ghost use Rattle.chain.specs.Computed.{numbers_of, at_or_nobody, links_by};
-ghost use Rattle.model.specs.State.{in_use, owner_no};
+ghost use Rattle.std.specs.Prelude.{◌≡◌, ◌<◌};
+ghost use Rattle.chain.specs.Arrays.{owners_of, wanted, wanted_of};
+ghost use Rattle.chain.specs.Computed.{numbers_of, at_or_nobody, link_at, links_by};
+ghost use Rattle.model.specs.State.{owner_of};
 
-use model::{NOBODY, Owner, State, TaskNo};
+use model::entries::in_use;
+use model::{NOBODY, State, TaskNo};
+use std::array;
 
-// The owner if it is one of the tasks in use, else nobody.
-fn owner_in_use(tasks: u16, owner: Owner) -> TaskNo
-    ensures { result ≡ record { 0 = (if in_use tasks (owner_no owner) then owner_no owner else 16) } }
+// The owner of resource r if both are in use, else nobody.
+#[tactic(auto, unfolding(model::specs::State::owner_of, model::specs::State::present, model::specs::State::here))]
+fn owner_at(st: &State, r: usize) -> TaskNo
+    requires { r < 16 }
+    ensures { result ≡ record { 0 = owner_of st.now r } }
 {
-    match owner {
-        Owner::Nobody => TaskNo(NOBODY),
-        Owner::By(t) => crate::servers::task_if(model::entries::in_use(tasks, t.0 as usize), t),
+    if !in_use(st.resources, r) {
+        return TaskNo(NOBODY);
+    }
+    match st.resource[r].owner {
+        Some(t) if in_use(st.tasks, t.0 as usize) => t,
+        _ => TaskNo(NOBODY),
     }
 }
 
@@ -21,62 +28,56 @@ fn owner_in_use(tasks: u16, owner: Owner) -> TaskNo
 pub fn owners(st: State) -> [TaskNo; 16]
     ensures { result ≡ owners_of st }
 {
-    let resources = st.resources;
-    let tasks = st.tasks;
-    let mut xs = [TaskNo(NOBODY); 16];
-    for r in 0..16usize {
-        if model::entries::in_use(resources, r) {
-            let entry = st.resource[r];
-            let owner = entry.owner;
-            xs[r] = owner_in_use(tasks, owner);
-        }
+    array::from_fn(|r| owner_at(&st, r))
+}
+
+// The resource that task t waits for, if it is in use.
+#[tactic(auto, unfolding(crate::specs::Arrays::wanted, model::specs::State::here))]
+fn wanted_at(st: &State, t: usize) -> u16
+    requires { t < 16 }
+    ensures { result ≡ wanted st.now t }
+{
+    if in_use(st.tasks, t) {
+        st.task[t].mode.awaited_no()
+    } else {
+        NOBODY
     }
-    xs
 }
 
 // The resource that each task waits for.
 pub fn wanted(st: State) -> [u16; 16]
     ensures { result ≡ wanted_of st }
 {
-    let tasks = st.tasks;
-    let mut xs = [NOBODY; 16];
-    for t in 0..16usize {
-        if model::entries::in_use(tasks, t) {
-            let entry = st.task[t];
-            let mode = entry.mode;
-            xs[t] = model::entries::awaited_no(mode);
-        }
-    }
-    xs
+    array::from_fn(|t| wanted_at(&st, t))
 }
 
-// Tasks' numbers as plain numbers, which can be lent.
+// Tasks' numbers as plain numbers, which can be lent. By `from_fn`, here and below: `map` takes its array apart and three times the instructions.
 pub fn numbers(tasks: [TaskNo; 16]) -> [u16; 16]
     ensures { result ≡ numbers_of tasks }
 {
-    let mut xs = [NOBODY; 16];
-    for i in 0..16usize {
-        let t = tasks[i];
-        xs[i] = t.0;
-    }
-    xs
+    array::from_fn(|i| tasks[i].0)
 }
 
 // What the array has at i, or nobody past its end.
+#[tactic(auto, unfolding(crate::specs::Computed::at_or_nobody))]
 pub fn at_or_nobody(xs: &[u16; 16], i: u16) -> u16
     ensures { result ≡ at_or_nobody xs.now i }
 {
     if i < 16 { xs[i as usize] } else { NOBODY }
 }
 
+// Whom task t waits for.
+#[tactic(auto, unfolding(crate::specs::Computed::link_at))]
+fn link_at(owners: &[u16; 16], wants: &[u16; 16], t: usize) -> u16
+    requires { t < 16 }
+    ensures { result ≡ link_at owners.now wants.now t }
+{
+    at_or_nobody(owners, wants[t])
+}
+
 // The links: whom each task waits for.
-pub(crate) fn links_by<'a>(owners: &'a [u16; 16], wants: &'a [u16; 16]) -> [u16; 16]
+pub(crate) fn links_by(owners: &[u16; 16], wants: &[u16; 16]) -> [u16; 16]
     ensures { result ≡ links_by owners.now wants.now }
 {
-    let mut xs = [NOBODY; 16];
-    for t in 0..16usize {
-        let want = wants[t];
-        xs[t] = at_or_nobody(owners, want);
-    }
-    xs
+    array::from_fn(|t| link_at(owners, wants, t))
 }

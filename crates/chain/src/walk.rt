@@ -5,7 +5,8 @@ ghost use Rattle.chain.specs.Computed.{end_by, ends_by};
 ghost use Rattle.model.specs.State.{served};
 
 use crate::links::{links_by, numbers, owners, wanted};
-use model::{NOBODY, State, TaskNo};
+use model::{State, TaskNo};
+use std::array;
 
 // Where the chain of t leads with so many tasks left.
 fn end_of(links: &[u16; 16], t: u16, left: u16) -> u16
@@ -25,15 +26,11 @@ fn end_of(links: &[u16; 16], t: u16, left: u16) -> u16
 }
 
 // The end of each chain, from the owners' numbers and what the tasks wait for.
-pub fn ends_by<'a>(owners: &'a [u16; 16], wants: &'a [u16; 16]) -> [TaskNo; 16]
+pub fn ends_by(owners: &[u16; 16], wants: &[u16; 16]) -> [TaskNo; 16]
     ensures { result ≡ ends_by owners.now wants.now }
 {
     let links = links_by(owners, wants);
-    let mut xs = [TaskNo(NOBODY); 16];
-    for t in 0..16usize {
-        xs[t] = TaskNo(end_of(&links, t as u16, 16));
-    }
-    xs
+    array::from_fn(|t| TaskNo(end_of(&links, t as u16, 16)))
 }
 
 // The end of each chain of a state. The end of a number that is not in use is that number.

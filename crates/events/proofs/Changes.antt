@@ -1,26 +1,26 @@
 -- The change of each event from its parts, as the code makes them; and that the events on servers and tasks change no chain. Assumes nothing.
-use Rattle.std.specs.Prelude.{if◌then◌else◌}
+use Rattle.std.specs.Prelude.{None, Some, if◌then◌else◌}
 use mathlib.Core.Path.{◌≡◌, refl, sym, ap, ap₂, ◌∙◌}
 use mathlib.Core.Bool.{Bool, true, false, ◌&&◌}
-use mathlib.Core.List.{List}
-use Prim.Native.Nat.{ℕ, ◌+◌, ◌<◌, ◌≤◌}
+use mathlib.Core.List.{List, ◌++◌}
+use Prim.Native.Nat.{ℕ, ◌+◌, ◌-◌, ◌<◌, ◌≤◌}
 use native.Mathlib.Omega.{arith}
 use lib.Dec.{ltb, eqb}
-use lib.ListN.{length, get_or, set, length-set, get_or-eq_default}
+use lib.ListN.{length, get_or, set, take, drop, length-set, length-append, get_or-eq_default}
+use Rattle.std.proofs.lemmas.List.{ext_get_or, get_or-take, get_or-drop, get_or_append_left, get_or-append_right, length-drop}
 use lib.Seq.{get_or-set_same, get_or-set_other}
 use borrow.Author.Tests.{eqb-true, eqb-false, eq-eqb, ne_eqb, ltb-true, ltb-false}
 use Rattle.laws.specs.Tests.{bit}
 use Rattle.laws.specs.Loops.{set_to}
 use Rattle.laws.proofs.Cases.{split, holds_fails, and_left, and_right}
-use Rattle.laws.proofs.Set.{length_set_to, set_cases}
+use Rattle.laws.proofs.Set.{length_set_to, set_at_lem, set_past, set_cases}
 use Rattle.model.specs.declared.TaskNo.{TaskNo}
 use Rattle.model.specs.declared.ServerNo.{ServerNo}
 use Rattle.model.specs.declared.Phase.{Phase}
 use Rattle.model.specs.declared.Phase.TheVariants.{Idle, Active}
 use Rattle.model.specs.declared.Mode.{Mode}
 use Rattle.model.specs.declared.Mode.TheVariants.{Suspended, Ready, Waiting}
-use Rattle.model.specs.declared.Runs.{Runs}
-use Rattle.model.specs.declared.Owner.TheVariants.{Nobody, By}
+use Rattle.model.specs.State.{Runs, places, nobody, no_task, server_at, task_at, resource_at, here, present, active, suspended, awaited, owned, owner_no, executor_number, owner_of, next, served, executor_of}
 use Rattle.model.specs.declared.Server.{Server}
 use Rattle.model.specs.declared.Task.{Task}
 use Rattle.model.specs.declared.Resource.{Resource}
@@ -28,7 +28,6 @@ use Rattle.model.specs.declared.State.{State}
 use Rattle.model.specs.declared.Event.TheVariants.{Wake, Suspend, Elapse, Recharge, Lock, Unlock}
 use Rattle.model.specs.declared.Answer.{Answer}
 use Rattle.model.specs.declared.Answer.TheVariants.{Ok, Granted, Waits, Passed, Freed}
-use Rattle.model.specs.State.{places, nobody, no_task, server_at, task_at, resource_at, here, present, active, suspended, awaited, owned, owner_no, executor_number, owner_of, next, served, executor_of}
 use Rattle.model.specs.RuleH.{with_tasks}
 use Rattle.model.specs.Events.{with_servers, with_clock, with_server, with_task, with_resource, with_phase, refilled, with_mode, each_server, task_by, woken, rested, slept, phased, ticked_task, elapsed, recharged_phase, recharged, with_owner, pushed, popped, enqueued, dequeued, next_in_queue, shifted, first_waiter, granted, joined, rested_end, locked, freed, passed, unlocked}
 use Rattle.model.proofs.Chain.{here_below, owner_past, present_past, same_served}
@@ -240,10 +239,60 @@ elapsed_does st n ends x ts e ex et =
     counts : x.count ≡ (spent_servers st n).count
     counts = ap (λ y. y.count) ex
 
--- Lock and unlock: the last step of the loop that moves a queue on
-pub shift_done : (queue after : List TaskNo) (last : ℕ) → after ≡ set_to last (next_in_queue queue) queue → set after last (record { 0 = 0 }) ≡ shifted queue last
-unfolding shifted
-shift_done queue after last e = ap (λ q. set q last (record { 0 = 0 })) e
+-- Unlock: the places in use of a queue, turned by one, with what stood first given up, are the queue moved on
+module _ (queue turned : List TaskNo) (w : ℕ) (long : length queue ≡ 16) (some : 0 < w) (most : w ≤ 16) where
+  abbrev nought : TaskNo
+  nought = record { 0 = 0 }
+
+  module _ (same : length turned ≡ w) (next : (k : ℕ) (d : TaskNo) → k + 1 < w → get_or turned k d ≡ get_or (take w queue) (k + 1) d) where
+    whole : length (turned ++ drop w queue) ≡ 16
+    whole = omega (arith, length-append turned (drop w queue), length-drop w queue, same, long)
+
+    abbrev moved : List TaskNo
+    moved = set_to (w - 1) (next_in_queue queue) queue
+
+    sixteen : length moved ≡ 16
+    sixteen = length_set_to (w - 1) (next_in_queue queue) queue ∙ long
+
+    place : (i : ℕ) → i < 16 → (i ≡ w - 1 → ⊥) → get_or (turned ++ drop w queue) i nought ≡ get_or moved i nought
+    unfolding next_in_queue
+    place i l n =
+        split
+        (ltb i (w - 1))
+        (λ y.
+        let b = ltb-true i (w - 1) y in
+        get_or_append_left turned (drop w queue) nought i (omega (arith, same))
+        ∙ next i nought (omega arith)
+        ∙ get_or-take w queue (i + 1) nought (omega arith)
+        ∙ sym (set_at_lem (w - 1) i (next_in_queue queue) queue nought b (omega (arith, long))))
+        (λ f.
+        let g : w ≤ i = omega (arith, n, ltb-false i (w - 1) f) in
+        get_or-append_right turned (drop w queue) w i nought same g
+        ∙ get_or-drop w queue (i - w) nought
+        ∙ ap (λ k. get_or queue k nought) (omega arith)
+        ∙ sym (set_past (w - 1) i (next_in_queue queue) queue nought (omega arith)))
+
+    pub shift_done : set (turned ++ drop w queue) (w - 1) nought ≡ shifted queue (w - 1)
+    unfolding shifted
+    shift_done =
+        ext_get_or
+        nought
+        (set (turned ++ drop w queue) (w - 1) nought)
+        (set moved (w - 1) nought)
+        (length-set (turned ++ drop w queue) (w - 1) nought ∙ whole ∙ sym (length-set moved (w - 1) nought ∙ sixteen))
+        (λ i l.
+        split
+        (eqb i (w - 1))
+        (λ y.
+        let e = eqb-true i (w - 1) y in
+        rw e
+        (get_or-set_same (turned ++ drop w queue) (w - 1) nought nought (omega (arith, whole))
+        ∙ sym (get_or-set_same moved (w - 1) nought nought (omega (arith, sixteen)))))
+        (λ n.
+        let e = eqb-false i (w - 1) n in
+        get_or-set_other (turned ++ drop w queue) (w - 1) i nought nought e
+        ∙ place i (omega (arith, l, length-set (turned ++ drop w queue) (w - 1) nought, whole)) e
+        ∙ sym (get_or-set_other moved (w - 1) i nought nought e)))
 
 joined_parts
     : (st : State) (t r : ℕ) (task : Task) (resource : Resource)
@@ -286,7 +335,7 @@ module _
   pub granted_does
       : owned (resource_at st r).owner ≡ false
       → task ≡ pushed r (task_at st t.0)
-      → resource ≡ with_owner (By t) (resource_at st r)
+      → resource ≡ with_owner (Some t) (resource_at st r)
       → ends ≡ ends_of made
       → record { state = made; answer = Granted r; ends = ends; acting = x } ≡ change_of st (Lock t r)
   unfolding change_of locked granted executor_of
@@ -297,7 +346,7 @@ module _
   pub freed_does
       : (resource_at st r).waiting ≡ 0
       → task ≡ popped (task_at st t.0)
-      → resource ≡ with_owner Nobody (resource_at st r)
+      → resource ≡ with_owner None (resource_at st r)
       → ends ≡ ends_of made
       → record { state = made; answer = Freed r; ends = ends; acting = x } ≡ change_of st (Unlock t r)
   unfolding change_of unlocked freed executor_of
@@ -335,7 +384,7 @@ pub passed_does
     → ready ≡ with_mode Ready (task_at st heir.0)
     → waiter ≡ pushed r ready
     → shorter ≡ dequeued (resource_at st r)
-    → resource ≡ with_owner (By heir) shorter
+    → resource ≡ with_owner (Some heir) shorter
     → ends ≡ ends_of (with_task heir.0 waiter (with_task t.0 task (with_resource r resource st)))
     → record { state = with_task heir.0 waiter (with_task t.0 task (with_resource r resource st)); answer = Passed heir; ends = ends; acting = x } ≡ change_of st (Unlock t r)
 unfolding change_of unlocked passed executor_of

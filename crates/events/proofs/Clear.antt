@@ -1,18 +1,17 @@
 -- What soundness and the tests that passed give to the changes: numbers in use, room on a stack or in a queue, something to give up, sums that fit.
 -- Assumes nothing.
+use Rattle.std.specs.Prelude.{None, Some}
 use mathlib.Core.Path.{◌≡◌, refl, sym, ◌∙◌}
 use mathlib.Core.Bool.{true}
 use Prim.Native.Nat.{ℕ, ◌+◌, ◌<◌, ◌≤◌}
 use native.Mathlib.Omega.{arith}
 use borrow.Author.Tests.{not-false}
 use Rattle.laws.proofs.Cases.{none_fails, none_later}
-use Rattle.model.specs.declared.Owner.{Owner}
-use Rattle.model.specs.declared.Owner.TheVariants.{Nobody, By}
+use Rattle.model.specs.State.{Owner, server_at, task_at, resource_at, here, owned, owner_no}
 use Rattle.model.specs.declared.TaskNo.{TaskNo}
 use Rattle.model.specs.declared.State.{State}
 use Rattle.model.specs.declared.Event.{Event}
 use Rattle.model.specs.declared.Event.TheVariants.{Wake, Suspend, Elapse, Lock, Unlock}
-use Rattle.model.specs.State.{server_at, task_at, resource_at, here, owned, owner_no}
 use Rattle.model.specs.Sound.{each, sound}
 use Rattle.model.specs.Events.{first_waiter}
 use Rattle.model.specs.Step.{affords}
@@ -52,8 +51,8 @@ elapse_affords st n c = not-false _ (none_fails _ _ _ (none_later _ _ _ (none_la
 
 -- a number that has a place is an owner's
 pub number_owned : (o : Owner) → owner_no o < 16 → owned o ≡ true
-number_owned Nobody l = absurd (omega arith)
-number_owned (By t) l = refl
+number_owned None l = absurd (omega arith)
+number_owned (Some t) l = refl
 
 module _ (st : State) (t : TaskNo) (r : ℕ) (clear : Clear st (Lock t r)) where
   abbrev lock_facts : Grounds st (Lock t r)

@@ -1,24 +1,17 @@
 -- What n ticks make of an entry, and why no sum of ticks overflows: accounts are at most the clock, and the clock has a limit. Assumes nothing.
 use Rattle.std.specs.Prelude.{if◌then◌else◌}
-use mathlib.Core.Path.{◌≡◌, refl, ◌∙◌, ap, ap₂}
-use mathlib.Core.Bool.{Bool, true, false, not, ◌&&◌}
-use Prim.Native.Nat.{ℕ, ◌+◌, ◌-◌, ◌≤◌}
-use native.Mathlib.Nat.{add-zero}
-use native.Mathlib.Numerals.{add-one}
+use mathlib.Core.Path.{◌≡◌, refl, ◌∙◌, ap}
+use mathlib.Core.Bool.{Bool, true, false, ◌&&◌}
+use Prim.Native.Nat.{ℕ, ◌+◌, ◌≤◌}
 use native.Mathlib.Omega.{arith}
-use lib.Dec.{leb, eqb}
-use Rattle.laws.specs.Tests.{◌implies◌}
-use Rattle.laws.specs.Loops.{all_to}
+use lib.Dec.{eqb}
 use Rattle.laws.proofs.Cases.{and_both}
-use Rattle.laws.proofs.Fold.{turns_done}
 use Rattle.laws.proofs.Reflect.{reflects_self, reflects_le, reflects_implies}
-use Rattle.model.specs.declared.Phase.{Phase}
-use Rattle.model.specs.declared.Phase.TheVariants.{Recharging}
 use Rattle.model.specs.declared.Server.{Server}
 use Rattle.model.specs.declared.Task.{Task}
 use Rattle.model.specs.declared.State.{State}
 use Rattle.model.specs.State.{server_at, task_at, here, served, running, running_at, executing, executes}
-use Rattle.model.specs.Sound.{if_here, each, sound}
+use Rattle.model.specs.Sound.{each, sound}
 use Rattle.model.specs.Events.{runs_out, own_ticks, lent_ticks, spin_ticks, spent_server, ticked_task}
 use Rattle.model.specs.Step.{affords}
 use Rattle.model.proofs.Sound.{each_fact, sound_facts}
@@ -27,45 +20,6 @@ use Rattle.events.specs.Computed.{spent_by, ticked_by}
 -- the ticks of an account
 ticks_are : (x n m : ℕ) (b p : Bool) → b ≡ p → m ≡ (if b then n else 0) → x + m ≡ x + (if p then n else 0)
 ticks_are x n m b p e q = ap (λ k. x + k) (q ∙ ap (λ a. if a then n else 0) e)
-
-pub ticks_added : (x n m : ℕ) (b p : Bool) → b ≡ p → m ≡ (if b then n else 0) → x + m ≡ (if p then x + n else x)
-ticks_added x n m b true e q = ap (λ k. x + k) (q ∙ rw e)
-ticks_added x n m b false e q = ap (λ k. x + k) (q ∙ rw e) ∙ add-zero x
-
--- one server, field by field
-pub spent_does
-    : (x : Server) (n : ℕ) (executes home runs out a b c : Bool) (phase : Phase) (budget own lent spin : ℕ)
-    → runs ≡ running x.phase
-    → out ≡ (running x.phase && eqb x.budget n)
-    → phase ≡ (if out then Recharging else x.phase)
-    → budget ≡ (if runs then x.budget - n else x.budget)
-    → a ≡ (executes && home)
-    → own ≡ (if a then n else 0)
-    → b ≡ (executes && not home)
-    → lent ≡ (if b then n else 0)
-    → c ≡ (runs && not executes)
-    → spin ≡ (if c then n else 0)
-    → record {
-      phase = phase;
-      budget = budget;
-      deadline = x.deadline;
-      quota = x.quota;
-      period = x.period;
-      own = x.own + own;
-      lent = x.lent + lent;
-      spin = x.spin + spin;
-    } ≡ spent_by n executes home x
-spent_does x n executes home runs out a b c phase budget own lent spin r o p q ea eo eb el ec es =
-    λ i. record {
-      phase = (p ∙ ap (λ k. if k then Recharging else x.phase) o) i;
-      budget = (q ∙ ap (λ k. if k then x.budget - n else x.budget) r) i;
-      deadline = x.deadline;
-      quota = x.quota;
-      period = x.period;
-      own = ticks_are x.own n own a _ ea eo i;
-      lent = ticks_are x.lent n lent b _ eb el i;
-      spin = ticks_are x.spin n spin c _ (ec ∙ ap (λ k. k && not executes) r) es i;
-    }
 
 -- a server in use
 pub out_here : (st : State) (n s : ℕ) (b : Bool) → here st s ≡ true → b ≡ (running (server_at st s).phase && eqb (server_at st s).budget n) → b ≡ runs_out st n s
@@ -91,32 +45,9 @@ pub ticked_here : (st : State) (n t : ℕ) (x : Task) → here st t ≡ true →
 unfolding ticked_task executing
 ticked_here st n t x h e = rw h e
 
--- a turn of a loop that tests all, of an entry in use and of another
-pub all_turn : (p : ℕ → Bool) (i : ℕ) (a b : Bool) → b ≡ p i → a ≡ all_to i p → (a && b) ≡ all_to (i + 1) p
-unfolding all_to
-all_turn p i a b e h = rw add-one (ap₂ ◌&&◌ h e)
-
 and_true : (a : Bool) → a ≡ (a && true)
 and_true true = refl
 and_true false = refl
-
-pub all_skip : (p : ℕ → Bool) (i : ℕ) (a : Bool) → true ≡ p i → a ≡ all_to i p → a ≡ all_to (i + 1) p
-all_skip p i a e h = and_true a ∙ all_turn p i a true e h
-
-pub all_ends : (p : ℕ → Bool) (i n : ℕ) (a : Bool) → i ≤ n → n ≤ i → a ≡ all_to i p → a ≡ all_to n p
-all_ends p i n a = turns_done (λ j. all_to j p) i n a
-
-pub affords_here
-    : (st : State) (n s : ℕ) (b : Bool)
-    → here st s ≡ true
-    → b ≡ (running (server_at st s).phase implies leb n (server_at st s).budget)
-    → b ≡ if_here st (affords st n) s
-unfolding if_here affords running_at
-affords_here st n s b h e = rw h e
-
-pub affords_past : (st : State) (n s : ℕ) → here st s ≡ false → true ≡ if_here st (affords st n) s
-unfolding if_here
-affords_past st n s e = rw e
 
 -- a Running server lasts n ticks
 pub lasts : (st : State) (n : ℕ) → each st (affords st n) ≡ true → (i : ℕ) → here st i ≡ true → running (server_at st i).phase ≡ true → n ≤ (server_at st i).budget

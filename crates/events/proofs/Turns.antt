@@ -77,15 +77,14 @@ executes_here st s end executor runs h e r p =
 
 -- a server past the count does not turn; one in use turns by its phase and the task that it serves
 pub turns_here
-    : (turn : Turn) (st : State) (t s end : ℕ) (a b : Bool)
+    : (turn : Turn) (st : State) (t s end : ℕ) (b : Bool)
     → here st s ≡ true
-    → a ≡ concerns turn (server_at st s).phase
     → end ≡ served st s
-    → b ≡ (a && eqb end t)
+    → b ≡ (concerns turn (server_at st s).phase && eqb end t)
     → b ≡ turns turn st t s
 unfolding turns wakes rests
-turns_here Wakes st t s end a b h p e q = rw (h, ← p, ← e) q
-turns_here Rests st t s end a b h p e q = rw (h, ← p, ← e) q
+turns_here Wakes st t s end b h e q = rw (h, ← e) q
+turns_here Rests st t s end b h e q = rw (h, ← e) q
 
 pub turns_past : (turn : Turn) (st : State) (t s : ℕ) → here st s ≡ false → false ≡ turns turn st t s
 unfolding turns wakes rests

@@ -1,9 +1,10 @@
 // Every event by its kind: the first test that refuses it, and its own change. Assumes nothing of a refusal; of a change that the state is sound and
 // that no test refuses.
-ghost use Rattle.std.specs.Prelude.{◌≡◌};
+ghost use Rattle.std.specs.Prelude.{◌≡◌, ◌||◌};
 ghost use Rattle.std.proofs.Math.Option.{some};
 ghost use Rattle.laws.specs.Tests.{first_of};
-ghost use Rattle.model.specs.State.{task_at};
+ghost use Rattle.model.specs.Refusals.{numbered};
+ghost use Rattle.model.specs.State.{task_at, in_use};
 ghost use Rattle.model.specs.Events.{number_of};
 ghost use Rattle.model.specs.Step.{tests, refusing};
 ghost use Rattle.model.specs.Verdicts.{verdict};
@@ -11,67 +12,57 @@ ghost use Rattle.events.specs.Changes.{Clear, change_of};
 ghost use Rattle.events.specs.Computed.{elapses};
 
 use crate::Change;
+use crate::locks::{lock_refusal, unlock_refusal};
+use crate::servers::{
+    dispatch_refusal, elapse_refusal, preempt_refusal, recharge_refusal, wake_refusal,
+};
 use crate::turning::Turn;
-use model::{Answer, Event, Phase, State, Verdict};
+use model::entries::in_use;
+use model::{Answer, Event, Phase, Refusal, State};
 
 // The number of the task or the server that the event names. An elapse names none.
 fn number_of(e: Event) -> u16
     ensures { result ≡ number_of e }
 {
     match e {
-        Event::Wake(t) => t.0,
-        Event::Suspend(t) => t.0,
-        Event::Dispatch(s) => s.0,
-        Event::Preempt(s) => s.0,
+        Event::Wake(t) | Event::Suspend(t) | Event::Lock(t, _) | Event::Unlock(t, _) => t.0,
+        Event::Dispatch(s) | Event::Preempt(s) | Event::Recharge(s) => s.0,
         Event::Elapse(_) => 0,
-        Event::Recharge(s) => s.0,
-        Event::Lock(t, _) => t.0,
-        Event::Unlock(t, _) => t.0,
     }
 }
 
-fn elapses(e: Event) -> bool
-    ensures { result ≡ elapses e }
+// Whether the event names no task and no server, or one in use.
+fn names_in_use(tasks: u16, e: Event) -> bool
+    ensures { result ≡ (elapses e || in_use tasks (number_of e)) }
 {
-    match e {
-        Event::Wake(_) => false,
-        Event::Suspend(_) => false,
-        Event::Dispatch(_) => false,
-        Event::Preempt(_) => false,
-        Event::Elapse(_) => true,
-        Event::Recharge(_) => false,
-        Event::Lock(_, _) => false,
-        Event::Unlock(_, _) => false,
-    }
+    matches!(e, Event::Elapse(_)) || in_use(tasks, number_of(e) as usize)
 }
 
-// The number of the first test that refuses the event, in the order of rule 10.2, or none. Test 2 is the first of every event that names a number.
-pub fn refusal(st: State, e: Event) -> Verdict
-    ensures { result ≡ verdict (first_of (tests st e)) }
+// The first test that refuses the event, in the order of rule 10.2, if one does. Test 2 is the first of every event that names a number.
+pub fn refusal(st: State, e: Event) -> Result<(), Refusal>
+    ensures { numbered result ≡ verdict (first_of (tests st e)) }
 {
-    let number = number_of(e) as usize;
-    let used = model::entries::in_use(st.tasks, number);
-    if !model::entries::either(elapses(e), used) {
-        return Verdict::Refused(2);
+    if !names_in_use(st.tasks, e) {
+        return Err(Refusal::NoSuchTask);
     }
     match e {
-        Event::Wake(t) => crate::servers::wake_refusal(st.task[t.0 as usize]),
+        Event::Wake(t) => wake_refusal(st.task[t.0 as usize]),
         Event::Suspend(t) => crate::acting::stall(st.task[t.0 as usize]),
-        Event::Dispatch(s) => crate::servers::dispatch_refusal(st, s, st.server[s.0 as usize]),
-        Event::Preempt(s) => crate::servers::preempt_refusal(st.server[s.0 as usize]),
-        Event::Elapse(n) => crate::servers::elapse_refusal(st, n),
-        Event::Recharge(s) => crate::servers::recharge_refusal(st, s, st.server[s.0 as usize]),
+        Event::Dispatch(s) => dispatch_refusal(st, s, st.server[s.0 as usize]),
+        Event::Preempt(s) => preempt_refusal(st.server[s.0 as usize]),
+        Event::Elapse(n) => elapse_refusal(st, n),
+        Event::Recharge(s) => recharge_refusal(st, s, st.server[s.0 as usize]),
         Event::Lock(t, r) => {
-            if !model::entries::in_use(st.resources, r as usize) {
-                return Verdict::Refused(3);
+            if !in_use(st.resources, r as usize) {
+                return Err(Refusal::NoSuchResource);
             }
-            crate::locks::lock_refusal(st, t, r, st.task[t.0 as usize], st.resource[r as usize])
+            lock_refusal(st, t, r, st.task[t.0 as usize], st.resource[r as usize])
         }
         Event::Unlock(t, r) => {
-            if !model::entries::in_use(st.resources, r as usize) {
-                return Verdict::Refused(3);
+            if !in_use(st.resources, r as usize) {
+                return Err(Refusal::NoSuchResource);
             }
-            crate::locks::unlock_refusal(t, r, st.task[t.0 as usize], st.resource[r as usize])
+            unlock_refusal(t, r, st.task[t.0 as usize], st.resource[r as usize])
         }
     }
 }
@@ -85,8 +76,7 @@ pub fn refusing(st: State, e: Event, n: u16) -> Answer
         return Answer::Refused(n);
     }
     let task = st.task[number_of(e) as usize];
-    let mode = task.mode;
-    Answer::RefusedWaiting(model::entries::awaited_no(mode))
+    Answer::RefusedWaiting(task.mode.awaited_no())
 }
 
 // The event's own change.

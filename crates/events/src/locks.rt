@@ -3,59 +3,58 @@
 ghost use Rattle.std.specs.Prelude.{◌≡◌, true, eqb};
 ghost use Rattle.laws.specs.Tests.{first_of};
 ghost use Rattle.model.specs.State.{task_at, resource_at, here, present, served};
+ghost use Rattle.model.specs.Refusals.{numbered};
 ghost use Rattle.model.specs.Step.{tests};
 ghost use Rattle.model.specs.Verdicts.{verdict};
 ghost use Rattle.events.specs.Changes.{Clear, change_of};
 
 use crate::Change;
 use crate::turning::Turn;
+use model::entries::{executor_in, in_set, owner_no};
 use model::verdicts::refused_if;
-use model::{Answer, Event, Mode, Owner, Resource, State, Task, TaskNo, Verdict};
+use model::{Answer, Event, Mode, Refusal, Resource, State, Task, TaskNo};
 
 // Whether the chain of the owner ends at t.
 fn closes(st: State, owner: TaskNo, t: TaskNo) -> bool
     ensures { result ≡ eqb (served st owner.0) t.0 }
 {
-    let end = chain::walk::chain_end(st, owner);
-    end.0 == t.0
+    chain::walk::chain_end(st, owner).0 == t.0
 }
 
 // 4, 61 to 63, 15, 16.
-pub fn lock_refusal(st: State, t: TaskNo, r: u16, task: Task, resource: Resource) -> Verdict
+pub fn lock_refusal(
+    st: State,
+    t: TaskNo,
+    r: u16,
+    task: Task,
+    resource: Resource,
+) -> Result<(), Refusal>
     requires t_value { (here st t.0 ≡ true) × (present st r ≡ true) }
     requires task_value { (task ≡ task_at st t.0) × (resource ≡ resource_at st r) }
-    ensures { result ≡ verdict (first_of (tests st (Event.Lock t r))) }
+    ensures { numbered result ≡ verdict (first_of (tests st (Event.Lock t r))) }
 {
-    if !model::entries::in_set(task.declared, r as usize) {
-        return Verdict::Refused(4);
+    if !in_set(task.declared, r as usize) {
+        return Err(Refusal::Undeclared);
     }
-    let stall = crate::acting::stall(task);
-    if let Verdict::Refused(n) = stall {
-        return Verdict::Refused(n);
+    crate::acting::stall(task)?;
+    if owner_no(resource.owner) == t.0 as usize {
+        return Err(Refusal::AlreadyHeld);
     }
-    let owner = resource.owner;
-    if model::entries::owner_no(owner) == t.0 as usize {
-        return Verdict::Refused(15);
-    }
-    match owner {
-        Owner::Nobody => Verdict::Accepted,
-        Owner::By(holder) => refused_if(16, closes(st, holder, t)),
+    match resource.owner {
+        None => Ok(()),
+        Some(holder) => refused_if(Refusal::WouldDeadlock, closes(st, holder, t)),
     }
 }
 
 // 61 to 63, 17, 18.
-pub fn unlock_refusal(t: TaskNo, r: u16, task: Task, resource: Resource) -> Verdict
-    ensures { (st : State) → here st t.0 ≡ true → present st r ≡ true → task ≡ task_at st t.0 → resource ≡ resource_at st r → result ≡ verdict (first_of (tests st (Event.Unlock t r))) }
+pub fn unlock_refusal(t: TaskNo, r: u16, task: Task, resource: Resource) -> Result<(), Refusal>
+    ensures { (st : State) → here st t.0 ≡ true → present st r ≡ true → task ≡ task_at st t.0 → resource ≡ resource_at st r → numbered result ≡ verdict (first_of (tests st (Event.Unlock t r))) }
 {
-    let stall = crate::acting::stall(task);
-    if let Verdict::Refused(n) = stall {
-        return Verdict::Refused(n);
+    crate::acting::stall(task)?;
+    if owner_no(resource.owner) != t.0 as usize {
+        return Err(Refusal::NotOwned);
     }
-    let owner = resource.owner;
-    if model::entries::owner_no(owner) != t.0 as usize {
-        return Verdict::Refused(17);
-    }
-    refused_if(18, crate::standing::top(task) != r)
+    refused_if(Refusal::NotTop, crate::standing::top(task) != r)
 }
 
 // Rules 7.7 and 7.8. No chain changes after the task has joined the queue, so that the ends serve the servers at rest too.
@@ -67,12 +66,10 @@ pub fn locked(mut st: State, t: TaskNo, r: u16) -> Change
     let j = r as usize;
     let task = st.task[i];
     let resource = st.resource[j];
-    let runs = task.runs;
-    let acting = model::entries::executor_in(runs);
-    let owner = resource.owner;
-    if !model::entries::is_owned(owner) {
+    let acting = executor_in(task.runs);
+    if resource.owner.is_none() {
         st.task[i] = crate::standing::pushed(r, task);
-        st.resource[j] = model::builders::with_owner(resource, Owner::By(t));
+        st.resource[j] = resource.with_owner(Some(t));
         return Change {
             state: st,
             answer: Answer::Granted(r),
@@ -80,13 +77,11 @@ pub fn locked(mut st: State, t: TaskNo, r: u16) -> Change
             acting,
         };
     }
-    st.task[i] = model::builders::with_mode(task, Mode::Waiting(r));
+    st.task[i] = task.with_mode(Mode::Waiting(r));
     st.resource[j] = crate::standing::enqueued(t, resource);
     let ends = chain::walk::chain_ends(st);
     let end = ends[i];
-    let last = st.task[end.0 as usize];
-    let mode = last.mode;
-    if model::entries::is_suspended(mode) {
+    if st.task[end.0 as usize].mode.is_suspended() {
         let turned = crate::turning::turned_servers(st, ends, end, Turn::Rests);
         let servers = turned.server;
         st.server = servers;
@@ -108,12 +103,11 @@ pub fn unlocked(mut st: State, t: TaskNo, r: u16) -> Change
     let j = r as usize;
     let task = st.task[i];
     let resource = st.resource[j];
-    let runs = task.runs;
-    let acting = model::entries::executor_in(runs);
+    let acting = executor_in(task.runs);
     let popped = crate::standing::popped(task);
     if resource.waiting == 0 {
         st.task[i] = popped;
-        st.resource[j] = model::builders::with_owner(resource, Owner::Nobody);
+        st.resource[j] = resource.with_owner(None);
         return Change {
             state: st,
             answer: Answer::Freed(r),
@@ -121,16 +115,12 @@ pub fn unlocked(mut st: State, t: TaskNo, r: u16) -> Change
             acting,
         };
     }
-    let queue = resource.queue;
-    let heir = queue[0];
+    let heir = resource.queue[0];
     let h = heir.0 as usize;
     let waiter = st.task[h];
     st.task[i] = popped;
-    st.task[h] = crate::standing::pushed(r, model::builders::with_mode(waiter, Mode::Ready));
-    st.resource[j] = model::builders::with_owner(
-        crate::standing::dequeued(resource),
-        Owner::By(heir),
-    );
+    st.task[h] = crate::standing::pushed(r, waiter.with_mode(Mode::Ready));
+    st.resource[j] = crate::standing::dequeued(resource).with_owner(Some(heir));
     Change {
         state: st,
         answer: Answer::Passed(heir),

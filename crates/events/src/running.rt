@@ -4,17 +4,15 @@ ghost use Rattle.laws.specs.Loops.{count_to};
 ghost use Rattle.model.specs.State.{running_at};
 
 use model::State;
+use model::entries::in_use;
 
 pub fn running_count(st: State) -> u16
     ensures { result ≡ count_to 16 (running_at st) }
 {
-    let servers = st.server;
     let mut count: u16 = 0;
-    for s in 0..16usize {
-        if model::entries::in_use(st.tasks, s) {
-            let server = servers[s];
-            let phase = server.phase;
-            count += model::entries::one_if(model::entries::is_running(phase));
+    for (s, server) in st.server.iter().enumerate() {
+        if in_use(st.tasks, s) {
+            count += u16::from(server.phase.is_running());
         }
     }
     count

@@ -1,9 +1,10 @@
 // Wake, suspend, dispatch, preempt, elapse, recharge: the tests of each, but suspend's, which stand in `acting`, and its change. A change writes into the
 // state that it is given: copies of a state are what a step spends most on. None of these events changes a chain. A change assumes a sound state that no
-// test refuses the event.
-ghost use Rattle.std.specs.Prelude.{◌≡◌, true, not, if◌then◌else◌};
+// test refuses the event: `Clear` stays a clause, since `event::changed`, which is named with it among the contracts, takes a state and an event.
+ghost use Rattle.std.specs.Prelude.{◌≡◌, ◌||◌, true, not, eqb, ltb, if◌then◌else◌};
 ghost use Rattle.laws.specs.Tests.{first_of};
 ghost use Rattle.model.specs.State.{server_at, here, running, suspended};
+ghost use Rattle.model.specs.Refusals.{numbered};
 ghost use Rattle.model.specs.Step.{tests};
 ghost use Rattle.model.specs.Verdicts.{verdict, refused_if};
 ghost use Rattle.events.specs.Changes.{Clear, change_of, phased_change};
@@ -11,63 +12,71 @@ ghost use Rattle.events.specs.Computed.{turn_of};
 
 use crate::Change;
 use crate::turning::Turn;
+use model::entries::executor_in;
 use model::verdicts::refused_if;
 use model::{
-    Answer, CLOCK_LIMIT, Event, LONGEST, Mode, NOBODY, Phase, Server, ServerNo, State, Task,
-    TaskNo, Verdict,
+    Answer, CLOCK_LIMIT, Event, LONGEST, Mode, NOBODY, Phase, Refusal, Server, ServerNo, State,
+    Task, TaskNo,
 };
 
 // 5.
-pub fn wake_refusal(task: Task) -> Verdict
-    ensures { result ≡ refused_if 5 (not (suspended task.mode)) }
+#[tactic(auto, using(model::proofs::Refused::told_if))]
+pub fn wake_refusal(task: Task) -> Result<(), Refusal>
+    ensures { numbered result ≡ refused_if 5 (not (suspended task.mode)) }
 {
-    let mode = task.mode;
-    refused_if(5, !model::entries::is_suspended(mode))
+    refused_if(Refusal::NotSuspended, !task.mode.is_suspended())
 }
 
 // 7, 8.
-pub fn dispatch_refusal(st: State, s: ServerNo, server: Server) -> Verdict
+pub fn dispatch_refusal(st: State, s: ServerNo, server: Server) -> Result<(), Refusal>
     requires { (here st s.0 ≡ true) × (server ≡ server_at st s.0) }
-    ensures { result ≡ verdict (first_of (tests st (Event.Dispatch s))) }
+    ensures { numbered result ≡ verdict (first_of (tests st (Event.Dispatch s))) }
 {
-    let phase = server.phase;
-    if !model::entries::is_active(phase) {
-        return Verdict::Refused(7);
+    if !server.phase.is_active() {
+        return Err(Refusal::NotActive);
     }
-    refused_if(8, st.processors <= crate::running::running_count(st))
+    refused_if(
+        Refusal::NoProcessor,
+        st.processors <= crate::running::running_count(st),
+    )
 }
 
 // 9.
-pub fn preempt_refusal(server: Server) -> Verdict
-    ensures { result ≡ refused_if 9 (not (running server.phase)) }
+#[tactic(auto, using(model::proofs::Refused::told_if))]
+pub fn preempt_refusal(server: Server) -> Result<(), Refusal>
+    ensures { numbered result ≡ refused_if 9 (not (running server.phase)) }
 {
-    let phase = server.phase;
-    refused_if(9, !model::entries::is_running(phase))
+    refused_if(Refusal::NotRunning, !server.phase.is_running())
+}
+
+fn is_out_of_range(n: u32) -> bool
+    ensures { result ≡ (eqb n 0 || ltb 1000000 n) }
+{
+    n == 0 || LONGEST < n
 }
 
 // 10, 11, 12. The sum is made in 64 bits, in which it fits whatever the state.
-pub fn elapse_refusal(st: State, n: u32) -> Verdict
-    ensures { result ≡ verdict (first_of (tests st (Event.Elapse n))) }
+pub fn elapse_refusal(st: State, n: u32) -> Result<(), Refusal>
+    ensures { numbered result ≡ verdict (first_of (tests st (Event.Elapse n))) }
 {
-    if model::entries::either(n == 0, LONGEST < n) {
-        return Verdict::Refused(10);
+    if is_out_of_range(n) {
+        return Err(Refusal::TicksOutOfRange);
     }
-    if (CLOCK_LIMIT as u64) < st.clock as u64 + n as u64 {
-        return Verdict::Refused(11);
+    if u64::from(CLOCK_LIMIT) < u64::from(st.clock) + u64::from(n) {
+        return Err(Refusal::ClockLimit);
     }
-    refused_if(12, !crate::spending::all_afford(st, n))
+    refused_if(Refusal::PastBudget, !crate::spending::all_afford(st, n))
 }
 
 // 13, 14.
-pub fn recharge_refusal(st: State, s: ServerNo, server: Server) -> Verdict
+pub fn recharge_refusal(st: State, s: ServerNo, server: Server) -> Result<(), Refusal>
     requires { (here st s.0 ≡ true) × (server ≡ server_at st s.0) }
-    ensures { result ≡ verdict (first_of (tests st (Event.Recharge s))) }
+    ensures { numbered result ≡ verdict (first_of (tests st (Event.Recharge s))) }
 {
-    let phase = server.phase;
-    if !model::entries::is_recharging(phase) {
-        return Verdict::Refused(13);
+    if !server.phase.is_recharging() {
+        return Err(Refusal::NotRecharging);
     }
-    refused_if(14, st.clock < server.deadline)
+    refused_if(Refusal::BeforeDeadline, st.clock < server.deadline)
 }
 
 // Wake and suspend (rules 7.1, 7.2): the servers that serve the task turn, and the task is ready or suspended.
@@ -79,9 +88,8 @@ pub fn turned(mut st: State, t: TaskNo, turn: Turn) -> Change
     let ends = chain::walk::chain_ends(st);
     let turned = crate::turning::turned_servers(st, ends, t, turn);
     let servers = turned.server;
-    let task = st.task[i];
     st.server = servers;
-    st.task[i] = model::builders::with_mode(task, crate::turning::mode_after(turn));
+    st.task[i] = st.task[i].with_mode(turn.mode_after());
     Change {
         state: st,
         answer: Answer::Ok(turned.count),
@@ -97,15 +105,12 @@ pub fn phased(mut st: State, s: ServerNo, phase: Phase) -> Change
 {
     let i = s.0 as usize;
     let ends = chain::walk::chain_ends(st);
-    let server = st.server[i];
     let end = ends[i];
-    let task = st.task[end.0 as usize];
-    let runs = task.runs;
-    let executor = model::entries::executor_in(runs);
-    st.server[i] = model::builders::with_phase(server, phase);
+    let executor = executor_in(st.task[end.0 as usize].runs);
+    st.server[i] = st.server[i].with_phase(phase);
     Change {
         state: st,
-        answer: Answer::Ok(model::entries::one_if(executor.0 == s.0)),
+        answer: Answer::Ok(u16::from(executor.0 == s.0)),
         ends,
         acting: ServerNo(NOBODY),
     }
@@ -136,7 +141,7 @@ pub fn elapsed(mut st: State, n: u32) -> Change
 fn recharged_phase(mode: Mode) -> Phase
     ensures { result ≡ (if suspended mode then Phase.Idle else Phase.Active) }
 {
-    if model::entries::is_suspended(mode) {
+    if mode.is_suspended() {
         Phase::Idle
     } else {
         Phase::Active
@@ -150,16 +155,12 @@ pub fn recharged(mut st: State, s: ServerNo) -> Change
 {
     let i = s.0 as usize;
     let ends = chain::walk::chain_ends(st);
-    let server = st.server[i];
     let end = ends[i];
-    let task = st.task[end.0 as usize];
-    let mode = task.mode;
-    st.server[i] = crate::turning::refilled(server, recharged_phase(mode), st.clock);
-    let filled = st.server[i];
-    let phase = filled.phase;
+    let phase = recharged_phase(st.task[end.0 as usize].mode);
+    st.server[i] = crate::turning::refilled(st.server[i], phase, st.clock);
     Change {
         state: st,
-        answer: Answer::Ok(model::entries::one_if(model::entries::is_active(phase))),
+        answer: Answer::Ok(u16::from(st.server[i].phase.is_active())),
         ends,
         acting: ServerNo(NOBODY),
     }

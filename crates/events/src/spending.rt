@@ -1,49 +1,45 @@
 // What n ticks make of servers and tasks, by who executes when they begin. Entries that are not in use are not read.
 // Assumes that the budgets of Running servers last and that the accounts fit, which refusal 12 and soundness say.
-ghost use Rattle.std.specs.Prelude.{◌≡◌, true, ◌&&◌, ◌+◌, ◌-◌, ◌≤◌, leb, eqb, if◌then◌else◌};
+ghost use Rattle.std.specs.Prelude.{◌≡◌, true, ◌&&◌, ◌+◌, ◌-◌, ◌<◌, ◌≤◌, leb, eqb, if◌then◌else◌};
 ghost use Rattle.laws.specs.Tests.{◌implies◌};
 ghost use Rattle.model.specs.State.{running};
-ghost use Rattle.model.specs.Sound.{each, sound};
+ghost use Rattle.model.specs.Sound.{each, if_here, sound};
 ghost use Rattle.model.specs.Step.{affords};
 ghost use Rattle.chain.specs.Arrays.{ends_of};
 ghost use Rattle.events.specs.Computed.{spent_by, spent_servers, ticked_by, ticked_tasks};
 
 use crate::turning::Turned;
+use model::entries::{executor_in, in_use};
 use model::{Phase, Server, State, Task, TaskNo};
 
 // Whether a server has the budget for n ticks, if it runs.
 fn affords_ticks(server: Server, n: u32) -> bool
     ensures { result ≡ (running server.phase implies leb n server.budget) }
 {
-    let phase = server.phase;
-    if model::entries::is_running(phase) {
-        n <= server.budget
-    } else {
-        true
-    }
+    !server.phase.is_running() || n <= server.budget
+}
+
+// Server s, if it is in use.
+#[tactic(auto, unfolding(model::specs::Sound::if_here, model::specs::Step::affords, model::specs::State::here, model::specs::State::running_at))]
+fn affords_at(st: &State, n: u32, s: usize) -> bool
+    requires { s < 16 }
+    ensures { result ≡ if_here st.now (affords st.now n) s }
+{
+    !in_use(st.tasks, s) || affords_ticks(st.server[s], n)
 }
 
 // Whether every Running server has the budget for n ticks.
 pub fn all_afford(st: State, n: u32) -> bool
     ensures { result ≡ each st (affords st n) }
 {
-    let servers = st.server;
-    let mut all = true;
-    for s in 0..16usize {
-        if model::entries::in_use(st.tasks, s) {
-            let server = servers[s];
-            all = model::entries::both(all, affords_ticks(server, n));
-        }
-    }
-    all
+    (0..16).all(|s| affords_at(&st, n, s))
 }
 
 // Whether the server runs and n ticks are all that it has left.
 fn runs_out(server: Server, n: u32) -> bool
     ensures { result ≡ (running server.phase && eqb server.budget n) }
 {
-    let phase = server.phase;
-    model::entries::both(model::entries::is_running(phase), server.budget == n)
+    server.phase.is_running() && server.budget == n
 }
 
 fn ticks_if(b: bool, n: u32) -> u32
@@ -72,21 +68,17 @@ fn spent_server(server: Server, n: u32, executes: bool, home: bool) -> Server
     requires n_bound { server.own + server.lent + server.spin + n ≤ 4000000000 }
     ensures { result ≡ spent_by n executes home server }
 {
-    let phase = server.phase;
-    let runs = model::entries::is_running(phase);
-    let budget = budget_after(runs, server.budget, n);
-    let own = ticks_if(model::entries::both(executes, home), n);
-    let lent = ticks_if(model::entries::both(executes, !home), n);
-    let spin = ticks_if(model::entries::both(runs, !executes), n);
+    let runs = server.phase.is_running();
+    let own = ticks_if(executes & home, n);
+    let lent = ticks_if(executes & !home, n);
+    let spin = ticks_if(runs & !executes, n);
     Server {
-        phase: phase_after(runs_out(server, n), phase),
-        budget,
-        deadline: server.deadline,
-        quota: server.quota,
-        period: server.period,
+        phase: phase_after(runs_out(server, n), server.phase),
+        budget: budget_after(runs, server.budget, n),
         own: server.own + own,
         lent: server.lent + lent,
         spin: server.spin + spin,
+        ..server
     }
 }
 
@@ -99,23 +91,17 @@ pub fn spent_servers(st: State, ends: [TaskNo; 16], n: u32) -> Turned
     ensures { result ≡ spent_servers st n }
 {
     let before = st.server;
-    let served = st.task;
     let mut servers = before;
     let mut count: u16 = 0;
+    // by number, which tells a server's own task
     for s in 0..16usize {
-        if model::entries::in_use(st.tasks, s) {
+        if in_use(st.tasks, s) {
             let server = before[s];
-            let phase = server.phase;
-            let end = ends[s];
-            let task = served[end.0 as usize];
-            let runs = task.runs;
-            let executor = model::entries::executor_in(runs);
-            let executes = model::entries::both(
-                model::entries::is_running(phase),
-                executor.0 as usize == s,
-            );
-            servers[s] = spent_server(server, n, executes, end.0 as usize == s);
-            count += model::entries::one_if(runs_out(server, n));
+            let end = ends[s].0 as usize;
+            let executor = executor_in(st.task[end].runs);
+            let executes = server.phase.is_running() & (executor.0 as usize == s);
+            servers[s] = spent_server(server, n, executes, end == s);
+            count += u16::from(runs_out(server, n));
         }
     }
     Turned {
@@ -129,17 +115,10 @@ fn ticked_task(task: Task, n: u32) -> Task
     requires { task.executed + n ≤ 4000000000 }
     ensures { result ≡ ticked_by n task }
 {
-    let mode = task.mode;
-    let runs = task.runs;
-    let held = task.held;
-    let ticks = ticks_if(model::entries::is_placed(runs), n);
+    let ticks = ticks_if(task.runs.is_some(), n);
     Task {
-        mode,
-        runs,
-        declared: task.declared,
-        depth: task.depth,
         executed: task.executed + ticks,
-        held,
+        ..task
     }
 }
 
@@ -151,10 +130,10 @@ pub fn ticked_tasks(st: State, n: u32) -> [Task; 16]
 {
     let before = st.task;
     let mut ticked = before;
+    // by number, by which a task is in use or not; the others stay as they are
     for t in 0..16usize {
-        if model::entries::in_use(st.tasks, t) {
-            let task = before[t];
-            ticked[t] = ticked_task(task, n);
+        if in_use(st.tasks, t) {
+            ticked[t] = ticked_task(before[t], n);
         }
     }
     ticked

@@ -7,65 +7,51 @@ ghost use Rattle.model.specs.Events.{pushed, popped, enqueued, dequeued, shifted
 use model::{Resource, Task, TaskNo};
 
 // The stack with r on top.
-pub fn pushed(r: u16, task: Task) -> Task
+pub fn pushed(r: u16, mut task: Task) -> Task
     requires { task.depth < 16 }
     ensures { result ≡ pushed r task }
 {
-    let top = task.depth as usize;
-    let mut after = task;
-    after.held[top] = r;
-    after.depth = task.depth + 1;
-    after
+    task.held[task.depth as usize] = r;
+    task.depth += 1;
+    task
 }
 
 // The stack with its top given up.
-pub fn popped(task: Task) -> Task
+pub fn popped(mut task: Task) -> Task
     requires { (0 < task.depth) × (task.depth ≤ 16) }
     ensures { result ≡ popped task }
 {
-    let left = task.depth - 1;
-    let top = left as usize;
-    let mut after = task;
-    after.held[top] = 0;
-    after.depth = left;
-    after
+    task.depth -= 1;
+    task.held[task.depth as usize] = 0;
+    task
 }
 
 // The resource on top.
 pub fn top(task: Task) -> u16
     ensures { result ≡ get_or task.held (task.depth - 1) 0 }
 {
-    let mut at = task.depth as usize;
-    if 0 < at {
-        at -= 1;
-    }
-    if at < 16 { task.held[at] } else { 0 }
+    let top = task.depth.saturating_sub(1) as usize;
+    task.held.get(top).copied().unwrap_or(0)
 }
 
-// The queue with t at its end.
-pub fn enqueued(t: TaskNo, resource: Resource) -> Resource
+// The queue with t at its end. As short as `pushed`: one function of both would take places, count and number of two types, and be longer.
+pub fn enqueued(t: TaskNo, mut resource: Resource) -> Resource
     requires { resource.waiting < 16 }
     ensures { result ≡ enqueued t.0 resource }
 {
-    let last = resource.waiting as usize;
-    let mut after = resource;
-    after.queue[last] = t;
-    after.waiting = resource.waiting + 1;
-    after
+    resource.queue[resource.waiting as usize] = t;
+    resource.waiting += 1;
+    resource
 }
 
 // The others one place on, and the last place given up.
-fn shifted(queue: [TaskNo; 16], last: usize) -> [TaskNo; 16]
-    requires { last < 16 }
-    ensures { result ≡ shifted queue last }
+fn shifted(mut queue: [TaskNo; 16], waiting: usize) -> [TaskNo; 16]
+    requires { (0 < waiting) × (waiting ≤ 16) }
+    ensures { result ≡ shifted queue (waiting - 1) }
 {
-    let mut after = queue;
-    for j in 0..last {
-        let next = queue[j + 1];
-        after[j] = next;
-    }
-    after[last] = TaskNo(0);
-    after
+    queue[..waiting].rotate_left(1);
+    queue[waiting - 1] = TaskNo(0);
+    queue
 }
 
 // The queue with its first given up.
@@ -73,11 +59,9 @@ pub fn dequeued(resource: Resource) -> Resource
     requires { (0 < resource.waiting) × (resource.waiting ≤ 16) }
     ensures { result ≡ dequeued resource }
 {
-    let last = resource.waiting - 1;
-    let queue = resource.queue;
-    let others = shifted(queue, last as usize);
-    let mut after = resource;
-    after.waiting = last;
-    after.queue = others;
-    after
+    Resource {
+        waiting: resource.waiting - 1,
+        queue: shifted(resource.queue, resource.waiting as usize),
+        ..resource
+    }
 }

@@ -1,5 +1,6 @@
 -- A state in lent bytes: what was written is read back, and writing what was read changes nothing. Both go by where the parts of the state stand in the
 -- bytes (`Laid`). Assumes nothing.
+use Rattle.std.specs.Prelude.{Ok, Err}
 use mathlib.Core.Path.{◌≡◌, refl, sym, ap, ◌∙◌}
 use mathlib.Core.Bool.{true, false}
 use mathlib.Core.List.{List, ◌++◌}
@@ -15,13 +16,12 @@ use Rattle.laws.proofs.Set.{set_done}
 use Rattle.laws.proofs.All.{all_at, all_each}
 use Rattle.model.specs.declared.State.{State}
 use Rattle.model.specs.State.{places, no_server, no_task, no_resource, server_at, task_at, resource_at}
-use Rattle.model.specs.Fresh.{blank_server, blank_task, blank_resource, unusable}
+use Rattle.model.specs.Fresh.{blank_server, blank_task, blank_resource}
 use Rattle.lent_bytes.specs.Numbers.{two_bytes, four_bytes, two, four, Bytes, Fits16, Fits32}
 use Rattle.lent_bytes.specs.Writing.{stored}
 use Rattle.lent_bytes.proofs.Writing.{stored_length}
 use Rattle.lent_bytes.proofs.Stands.{Stands}
 use Rattle.lent_bytes.proofs.Codec.{Codec, ◌then◌, Any, two_codec, four_codec}
-use Rattle.image.specs.declared.ImageAnswer.TheVariants.{Held, Refused}
 use Rattle.image.specs.Layout.{header_size, server_size, task_size, resource_size, servers_offset, tasks_offset, resources_offset, image_size, used}
 use Rattle.image.specs.Encoded.{entries, server_bytes, task_bytes, resource_bytes, header_bytes, servers_bytes, tasks_bytes, resources_bytes, encoded, written}
 use Rattle.image.specs.Decoded.{server_fits, tasks_used, resources_used, task_entries_fit, resource_entry_fits, is_image, entry_in, entries_in, server_in, task_in, resource_in, state_in, decoded, imaged_by}
@@ -220,13 +220,13 @@ entries_read get size blank bytes at i n m xs ys l g c e h =
 
 -- the ways out of reading and of writing, for the code
 module _ (bytes : List ℕ) where
-  pub read_held : (st : State) → is_image bytes ≡ true → st ≡ state_in bytes → record { answer = Held; state = st } ≡ imaged_by (decoded bytes)
+  pub read_held : (st : State) → is_image bytes ≡ true → st ≡ state_in bytes → Ok st ≡ imaged_by (decoded bytes)
   unfolding decoded
   read_held st y e = rw (y, e)
 
-  pub read_refused : (st : State) → is_image bytes ≡ false → st ≡ unusable → record { answer = Refused 1; state = st } ≡ imaged_by (decoded bytes)
+  pub read_refused : is_image bytes ≡ false → Err 1 ≡ imaged_by (decoded bytes)
   unfolding decoded
-  read_refused st n e = rw (n, e)
+  read_refused n = rw n
 
   -- the parts one after the other, n servers and tasks and r resources
   module _ (st : State) (n r : ℕ) (tasks : n ≡ used st.tasks) (resources : r ≡ used st.resources) {one two three exit : List ℕ} where

@@ -1,3 +1,4 @@
+pub mod Chains
 pub mod Stored
 pub mod Parts
 pub mod Image

@@ -1,4 +1,6 @@
 -- The codecs of the parts of a state: entries in a row, enums, and the records of a server, a task and a resource. Assumes nothing.
+use Rattle.std.specs.Prelude.{None, Some}
+use Rattle.std.specs.Option.{option_map}
 use mathlib.Core.Path.{◌≡◌, refl, sym, ap, subst, ◌∙◌}
 use mathlib.Core.Bool.{true}
 use mathlib.Core.List.{List, append_assoc}
@@ -6,25 +8,24 @@ use Prim.Native.Nat.{ℕ, ◌+◌, ◌*◌, ◌<◌, ◌≤◌}
 use native.Mathlib.Nat.{add_assoc}
 use native.Mathlib.Omega.{arith}
 use lib.Dec.{ltb, eqb}
-use lib.ListN.{length, get_or, replicate, length-replicate}
-use lib.Seq.{ext_get_or}
+use lib.ListN.{length, get_or, take, replicate, length-replicate}
+use lib.Seq.{ext_get_or, get_or-take}
 use borrow.Author.Tests.{ltb-true, eqb-true, eqb-false, ne_eqb}
 use Rattle.laws.specs.Loops.{set_to}
 use Rattle.laws.proofs.Cases.{split, and_left, and_right, and_both}
 use Rattle.laws.proofs.Join.{join_long}
 use Rattle.laws.proofs.Set.{set_at_lem, set_same, length_set_to}
 use Rattle.lent_bytes.specs.Numbers.{byte_at, one, two, Bytes, Fits16}
+use Rattle.lent_bytes.specs.Writing.{stored}
 use Rattle.lent_bytes.proofs.Stands.{Stands, stands_part, stands_parts}
 use Rattle.lent_bytes.proofs.Codec.{Codec, ◌then◌, recoded, Any, two_codec, four_codec}
 use Rattle.model.specs.declared.TaskNo.{TaskNo}
 use Rattle.model.specs.declared.Phase.TheVariants.{Idle, Active, Running, Recharging}
 use Rattle.model.specs.declared.Mode.TheVariants.{Suspended, Ready, Waiting}
-use Rattle.model.specs.declared.Runs.TheVariants.{Nowhere, In}
-use Rattle.model.specs.declared.Owner.TheVariants.{Nobody, By}
 use Rattle.model.specs.State.{places}
 use Rattle.image.specs.declared.Tagged.{Tagged}
-use Rattle.image.specs.Encoded.{phase_tag, mode_tagged, runs_tagged, owner_tagged, tagged_bytes, entry_bytes, entries, no_task_no, task_no_bytes, server_bytes, task_bytes, resource_bytes}
-use Rattle.image.specs.Decoded.{phase_of, mode_of, runs_of, owner_of, tag_fits, tagged_in, tagged_fits, server_fits, task_fits, resource_fits, entry_in, entries_in, task_no_in, server_in, task_in, resource_in}
+use Rattle.image.specs.Encoded.{phase_tag, mode_tagged, number_tagged, runs_tagged, owner_tagged, tagged_bytes, entry_bytes, entries, no_task_no, task_no_bytes, server_bytes, task_bytes, resource_bytes}
+use Rattle.image.specs.Decoded.{phase_of, mode_of, number_of, runs_of, owner_of, tag_fits, tagged_in, tagged_fits, server_fits, task_fits, resource_fits, entry_in, entries_in, task_no_in, server_in, task_in, resource_in}
 use Rattle.image.specs.Fits.{FitsEach, FitsTaskNo, FitsServer, FitsTask, FitsResource}
 
 -- the first n entries, of sixteen
@@ -149,27 +150,24 @@ mode_tagging = record {
       (λ b. rw (a, b) (omega (arith, eqb-false t.tag 0 a, eqb-false t.tag 1 b, most 2 t k), refl)));
 }
 
+-- a number or none, in a struct of its own
+module _ {A : Type 0} (number : A → ℕ) (make : ℕ → A) (there : (n : ℕ) → number (make n) ≡ n) (home : (a : A) → make (number a) ≡ a) where
+  number_tagging : Tagging 1 (λ o. number_tagged (option_map number o)) (λ t. option_map make (number_of t))
+  number_tagging = record {
+    home = λ o. elim o as (λ x. option_map make (number_of (number_tagged (option_map number x))) ≡ x) [ None ↦ refl | Some a ↦ ap Some (home a) ];
+    known = λ o. elim o as (λ x. tag_fits 1 (number_tagged (option_map number x)) ≡ true) [ None ↦ refl | Some a ↦ refl ];
+    again = λ t k.
+        split
+        (eqb t.tag 0)
+        (λ y. let e = eqb-true t.tag 0 y in rw y (sym e, none 1 t k (λ z. omega arith)))
+        (λ a. rw a (omega (arith, eqb-false t.tag 0 a, most 1 t k), there t.number));
+  }
+
 runs_tagging : Tagging 1 runs_tagged runs_of
-runs_tagging = record {
-  home = λ e. elim e as (λ x. runs_of (runs_tagged x) ≡ x) [ Nowhere ↦ refl | In s ↦ refl ];
-  known = λ e. elim e as (λ x. tag_fits 1 (runs_tagged x) ≡ true) [ Nowhere ↦ refl | In s ↦ refl ];
-  again = λ t k.
-      split
-      (eqb t.tag 0)
-      (λ y. let e = eqb-true t.tag 0 y in rw y (sym e, none 1 t k (λ z. omega arith)))
-      (λ a. rw a (omega (arith, eqb-false t.tag 0 a, most 1 t k), refl));
-}
+runs_tagging = number_tagging (λ s. s.0) (λ n. record { 0 = n }) (λ n. refl) (λ s. refl)
 
 owner_tagging : Tagging 1 owner_tagged owner_of
-owner_tagging = record {
-  home = λ e. elim e as (λ x. owner_of (owner_tagged x) ≡ x) [ Nobody ↦ refl | By t ↦ refl ];
-  known = λ e. elim e as (λ x. tag_fits 1 (owner_tagged x) ≡ true) [ Nobody ↦ refl | By t ↦ refl ];
-  again = λ t k.
-      split
-      (eqb t.tag 0)
-      (λ y. let e = eqb-true t.tag 0 y in rw y (sym e, none 1 t k (λ z. omega arith)))
-      (λ a. rw a (omega (arith, eqb-false t.tag 0 a, most 1 t k), refl));
-}
+owner_tagging = number_tagging (λ t. t.0) (λ n. record { 0 = n }) (λ n. refl) (λ t. refl)
 
 phase_again : (b : ℕ) → ltb b 4 ≡ true → phase_tag (phase_of b) ≡ b
 phase_again b k =
@@ -249,3 +247,10 @@ held_long held = (sixteen two_codec 0 0).long held
 
 pub queue_long : (queue : List TaskNo) → length (entries task_no_bytes no_task_no places queue) ≡ 32
 queue_long queue = (sixteen task_no_codec no_task_no no_task_no).long queue
+
+-- an entry of the first n, for the code that writes them
+pub taken_stored
+    : {A : Type 0} (bytes : A → List ℕ) (nothing : A) (n i at : ℕ) (xs : List A) (l : List ℕ) {m : List ℕ}
+    → i < n → m ≡ stored l at (bytes (get_or (take n xs) i nothing)) → m ≡ stored l at (entry_bytes bytes nothing xs i)
+unfolding entry_bytes
+taken_stored bytes nothing n i at xs l below e = e ∙ ap (λ x. stored l at (bytes x)) (get_or-take n xs i nothing below)

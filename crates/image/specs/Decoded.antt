@@ -1,7 +1,9 @@
 -- The state that an image holds, and which bytes are images: those of the one length in whose entries in use the variants are in range, with 0 where a
 -- variant holds no number. Any other bytes are no state's (law `encoded_decoded`) and are refused. Entries past the counts are not read: whatever stands
 -- there, the state has blank ones (rule 1.7). Assumes nothing.
-use Rattle.std.specs.Prelude.{Bool, ◌&&◌, ◌||◌, List, ℕ, ◌+◌, ◌*◌, ltb, eqb, length, replicate, if◌then◌else◌}
+use Rattle.std.specs.Prelude.{Bool, ◌&&◌, ◌||◌, List, ℕ, ◌+◌, ◌*◌, ltb, eqb, length, replicate, if◌then◌else◌, Some, None, Result, Ok, Err}
+use Rattle.std.specs.Prelude as std
+use Rattle.std.specs.Option.{option_map}
 use Rattle.std.proofs.Math.Option.{Option, none, some}
 use Rattle.laws.specs.Loops.{all_to, set_to}
 use Rattle.lent_bytes.specs.Numbers.{byte_at, two_bytes, four_bytes}
@@ -10,19 +12,13 @@ use Rattle.model.specs.declared.Phase.{Phase}
 use Rattle.model.specs.declared.Phase.TheVariants.{Idle, Active, Running, Recharging}
 use Rattle.model.specs.declared.Mode.{Mode}
 use Rattle.model.specs.declared.Mode.TheVariants.{Suspended, Ready, Waiting}
-use Rattle.model.specs.declared.Runs.{Runs}
-use Rattle.model.specs.declared.Runs.TheVariants.{Nowhere, In}
-use Rattle.model.specs.declared.Owner.{Owner}
-use Rattle.model.specs.declared.Owner.TheVariants.{Nobody, By}
 use Rattle.model.specs.declared.Server.{Server}
 use Rattle.model.specs.declared.Task.{Task}
 use Rattle.model.specs.declared.Resource.{Resource}
 use Rattle.model.specs.declared.State.{State}
-use Rattle.model.specs.State.{places}
-use Rattle.model.specs.Fresh.{blank_server, blank_task, blank_resource, unusable}
+use Rattle.model.specs.State.{Runs, Owner, places}
+use Rattle.model.specs.Fresh.{blank_server, blank_task, blank_resource}
 use Rattle.image.specs.declared.Tagged.{Tagged}
-use Rattle.image.specs.declared.ImageAnswer.TheVariants.{Held, Refused}
-use Rattle.image.specs.declared.Imaged.{Imaged}
 use Rattle.image.specs.Layout.{server_size, task_size, resource_size, servers_offset, tasks_offset, resources_offset, image_size, used}
 use Rattle.image.specs.Encoded.{no_task_no}
 
@@ -33,11 +29,15 @@ phase_of tag = if eqb tag 0 then Idle else if eqb tag 1 then Active else if eqb 
 abbrev pub mode_of : Tagged → Mode
 mode_of t = if eqb t.tag 0 then Suspended else if eqb t.tag 1 then Ready else Waiting t.number
 
+-- a number or none
+abbrev pub number_of : Tagged → std.Option ℕ
+number_of t = if eqb t.tag 0 then None else Some t.number
+
 abbrev pub runs_of : Tagged → Runs
-runs_of t = if eqb t.tag 0 then Nowhere else In (record { 0 = t.number })
+runs_of t = option_map (λ n. record { 0 = n }) (number_of t)
 
 abbrev pub owner_of : Tagged → Owner
-owner_of t = if eqb t.tag 0 then Nobody else By (record { 0 = t.number })
+owner_of t = option_map (λ n. record { 0 = n }) (number_of t)
 
 -- the last variant, which holds a number, or an earlier one, which holds none
 abbrev pub tag_fits : ℕ → Tagged → Bool
@@ -129,7 +129,7 @@ state_in bytes = record {
 unfoldable pub decoded : List ℕ → Option State
 decoded bytes = if is_image bytes then some (state_in bytes) else none
 
--- what reading gives back: 1 and no state of use where the bytes are no state's (rule 1.7)
-abbrev pub imaged_by : Option State → Imaged
-imaged_by none = record { answer = Refused 1; state = unusable }
-imaged_by (some st) = record { answer = Held; state = st }
+-- what reading gives back: refusal 1 where the bytes are no state's (rule 1.7)
+abbrev pub imaged_by : Option State → Result State ℕ
+imaged_by none = Err 1
+imaged_by (some st) = Ok st

@@ -1,6 +1,7 @@
 -- A state in lent bytes, field by field: what writing leaves there. Numbers are little-endian; an enum is the number of its variant, and then the number
 -- that the variant holds, which is 0 where it holds none. Entries past the counts are not written (rule 1.7). Assumes nothing.
-use Rattle.std.specs.Prelude.{List, ◌++◌, ℕ, eqb, length, get_or, if◌then◌else◌}
+use Rattle.std.specs.Prelude.{List, ◌++◌, ℕ, eqb, length, get_or, if◌then◌else◌, Option, Some, None}
+use Rattle.std.specs.Option.{option_map}
 use Rattle.laws.specs.Loops.{join_to}
 use Rattle.lent_bytes.specs.Numbers.{one, two, four}
 use Rattle.lent_bytes.specs.Writing.{stored}
@@ -9,15 +10,11 @@ use Rattle.model.specs.declared.Phase.{Phase}
 use Rattle.model.specs.declared.Phase.TheVariants.{Idle, Active, Running, Recharging}
 use Rattle.model.specs.declared.Mode.{Mode}
 use Rattle.model.specs.declared.Mode.TheVariants.{Suspended, Ready, Waiting}
-use Rattle.model.specs.declared.Runs.{Runs}
-use Rattle.model.specs.declared.Runs.TheVariants.{Nowhere, In}
-use Rattle.model.specs.declared.Owner.{Owner}
-use Rattle.model.specs.declared.Owner.TheVariants.{Nobody, By}
 use Rattle.model.specs.declared.Server.{Server}
 use Rattle.model.specs.declared.Task.{Task}
 use Rattle.model.specs.declared.Resource.{Resource}
 use Rattle.model.specs.declared.State.{State}
-use Rattle.model.specs.State.{places, no_server, no_task, no_resource}
+use Rattle.model.specs.State.{Runs, Owner, places, no_server, no_task, no_resource}
 use Rattle.image.specs.declared.Tagged.{Tagged}
 use Rattle.image.specs.Layout.{servers_offset, tasks_offset, resources_offset, image_size, used}
 
@@ -32,13 +29,16 @@ mode_tagged Suspended = record { tag = 0; number = 0 }
 mode_tagged Ready = record { tag = 1; number = 0 }
 mode_tagged (Waiting r) = record { tag = 2; number = r }
 
+-- a number or none
+abbrev pub number_tagged : Option ℕ → Tagged
+number_tagged None = record { tag = 0; number = 0 }
+number_tagged (Some n) = record { tag = 1; number = n }
+
 abbrev pub runs_tagged : Runs → Tagged
-runs_tagged Nowhere = record { tag = 0; number = 0 }
-runs_tagged (In s) = record { tag = 1; number = s.0 }
+runs_tagged runs = number_tagged (option_map (λ s. s.0) runs)
 
 abbrev pub owner_tagged : Owner → Tagged
-owner_tagged Nobody = record { tag = 0; number = 0 }
-owner_tagged (By t) = record { tag = 1; number = t.0 }
+owner_tagged owner = number_tagged (option_map (λ t. t.0) owner)
 
 unfoldable pub tagged_bytes : Tagged → List ℕ
 tagged_bytes t = one t.tag ++ two t.number

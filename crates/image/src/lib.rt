@@ -3,28 +3,14 @@
 // `encoded_decoded`). No assumption on the bytes or the state.
 #![tactic(auto)]
 
-use model::State;
-
-#[derive(Clone, Copy)]
-pub enum ImageAnswer {
-    Held,
-    // 1: the bytes are no state's
-    Refused(u16),
-}
-
-// What reading gives back. The answer stands beside the state, since an enum holds no array.
-#[derive(Clone, Copy)]
-pub struct Imaged {
-    pub answer: ImageAnswer,
-    pub state: State,
-}
-
 // An enum as the number of its variant and the number that the variant holds, 0 where it holds none.
 #[derive(Clone, Copy)]
 pub struct Tagged {
     pub tag: u8,
     pub number: u16,
 }
+
+pub use tags::phase_tag;
 
 pub mod reading;
 pub mod sizes;

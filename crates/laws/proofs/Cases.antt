@@ -64,13 +64,6 @@ and_right false b h = absurd (true≢false (sym h))
 pub and_both : (a b : Bool) → a ≡ true → b ≡ true → (a && b) ≡ true
 and_both a b p q = rw (p, q)
 
--- the two ways out of `if a { b } else { false }`
-pub and_yes : (a b r : Bool) → a ≡ true → r ≡ b → r ≡ (a && b)
-and_yes a b r p e = rw p e
-
-pub and_no : (a b : Bool) → a ≡ false → false ≡ (a && b)
-and_no a b p = rw p
-
 -- numbered tests: the first holds, or it fails and the rest decide
 pub first_yes : (n : ℕ) (b : Bool) (ts : List (ℕ × Bool)) → b ≡ true → first_of ((n, b) ∷ ts) ≡ some n
 unfolding first_of

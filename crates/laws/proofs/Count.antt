@@ -9,6 +9,7 @@ use native.Mathlib.Omega.{arith}
 use Rattle.laws.specs.Tests.{bit}
 use Rattle.laws.specs.Loops.{count_to, sum_to}
 use lib.Dec.{eqb}
+use mir.Val.{bool_byte}
 use borrow.Author.Tests.{eqb-true, eq-eqb, ne_eqb}
 use Rattle.laws.proofs.Cases.{split, unheld_fails}
 use Rattle.laws.proofs.Fold.{turns_done}
@@ -17,6 +18,11 @@ use Rattle.laws.proofs.Sum.{sum_ext, sum_le, sum_zero, sum_at, sum_but_one}
 pub bit_le : (b : Bool) → bit b ≤ 1
 bit_le true = omega arith
 bit_le false = omega arith
+
+-- a test as a number, as the library's `From` gives it
+pub bit_byte : (b : Bool) → bool_byte b ≡ bit b
+bit_byte true = refl
+bit_byte false = refl
 
 pub count_none : (p : ℕ → Bool) → 0 ≡ count_to 0 p
 unfolding count_to

@@ -14,3 +14,4 @@ pub mod Ends
 pub mod SameAt
 pub mod Standing
 pub mod Unique
+pub mod Made

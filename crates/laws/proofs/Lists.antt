@@ -3,11 +3,12 @@ use Rattle.std.specs.Prelude.{if◌then◌else◌}
 use mathlib.Core.Path.{◌≡◌, refl, ap}
 use mathlib.Core.List.{List, [], ◌∷◌}
 use mathlib.Core.Logic.{◌⊎◌, inl, inr, ⊎_elim}
-use Prim.Native.Nat.{ℕ, zero, suc, ◌<◌}
+use Prim.Native.Nat.{ℕ, zero, suc, ◌<◌, ◌≤◌}
 use native.Mathlib.Omega.{arith}
 use lib.Dec.{eqb}
-use lib.ListN.{length, get_or, set, replicate}
+use lib.ListN.{length, get_or, set, take, replicate}
 use lib.Seq.{get_or-set_same, get_or-set_other}
+use Rattle.std.proofs.lemmas.List.{get_or-take, length-take-le}
 use borrow.Author.Tests.{eqb-true, eqb-false}
 use Rattle.laws.proofs.Cases.{split}
 
@@ -49,3 +50,7 @@ module _ {ℓ} {A : Type ℓ} where
   replicate_at zero i a = refl
   replicate_at (suc n) zero a = refl
   replicate_at (suc n) (suc i) a = replicate_at n i a
+
+-- place i of the first n of a list, and that it is one of them
+pub taken : {A : Type 0} (n i : ℕ) (xs : List A) (d : A) → n ≤ length xs → i < length (take n xs) → (i < n) × (get_or (take n xs) i d ≡ get_or xs i d)
+taken n i xs d l m = let below : i < n = omega (arith, length-take-le n xs l) in (below, get_or-take n xs i d below)

@@ -1,12 +1,11 @@
 -- The loop that makes an array place by place. `Making` is its invariant, whatever the array was at first: a turn stores f i at place i, or leaves there
 -- what f i is already. One law begins it, one goes on by each of the two ways, and one ends it. Assumes nothing.
-use mathlib.Core.Path.{◌≡◌, sym, ◌∙◌}
+use mathlib.Core.Path.{◌≡◌, ◌∙◌}
 use mathlib.Core.List.{List}
 use Prim.Native.Nat.{ℕ, ◌+◌, ◌<◌, ◌≤◌}
 use native.Mathlib.Omega.{arith}
 use lib.ListN.{get_or, set, replicate, length-replicate}
 use Rattle.laws.specs.Loops.{set_to, made_by}
-use Rattle.laws.proofs.Lists.{replicate_at}
 use Rattle.laws.proofs.Set.{set_none, set_more, set_done, set_at_lem, set_skip}
 
 module _ {A : Type 0} where
@@ -27,16 +26,6 @@ module _ {A : Type 0} where
 
   pub making_done : {n : ℕ} {f : ℕ → A} {first xs : List A} {i : ℕ} → n ≤ i → Making n f first i xs → xs ≡ set_to n f first
   making_done l h = set_done _ _ _ _ _ h.inside l h.so_far
-
-  -- a turn that leaves a place of an array that was blank at first
-  pub making_blank
-      : {n : ℕ} {f : ℕ → A} {xs ys : List A} {i : ℕ} (blank : A)
-      → i < n
-      → ys ≡ xs
-      → f i ≡ blank
-      → Making n f (replicate n blank) i xs
-      → Making n f (replicate n blank) (i + 1) ys
-  making_blank {n} {f} {xs} {ys} {i} blank l e v h = making_skip l blank e (v ∙ sym (replicate_at n i blank)) h
 
   -- a place of what was made
   pub made_at : (n : ℕ) (f : ℕ → A) (blank d : A) (i : ℕ) → i < n → get_or (made_by n f blank) i d ≡ f i

@@ -1,5 +1,6 @@
 pub mod Writing
 pub mod Stands
+pub mod Endian
 pub mod Codec
 pub mod Parts
 pub mod Digits

@@ -4,6 +4,8 @@ ghost use Rattle.std.specs.Prelude.{◌+◌, ◌≤◌, length};
 ghost use Rattle.lent_bytes.specs.Text.{digits, digits_most, decimal};
 ghost use Rattle.lent_bytes.specs.Writing.{Wrote};
 
+use crate::numbers::put_part;
+
 // Enough for every number of 64 bits.
 const DIGITS: usize = 20;
 
@@ -11,12 +13,8 @@ pub fn put_text(out: &mut [u8], at: usize, text: &[u8]) -> usize
     requires { at + length text.now ≤ length out.old }
     ensures { Wrote (length text.now) out.old at text.now out.new result }
 {
-    let mut i: usize = 0;
-    while i < text.len() {
-        out[at + i] = text[i];
-        i += 1;
-    }
-    at + i
+    put_part(out, at, text);
+    at + text.len()
 }
 
 // The last digits of n, at most so many.
@@ -28,11 +26,11 @@ fn put_digits(out: &mut [u8], at: usize, n: usize, left: usize) -> usize
         return at;
     }
     if n < 10 {
-        out[at] = (48 + n % 10) as u8;
+        out[at] = b'0' + (n % 10) as u8;
         return at + 1;
     }
     let next = put_digits(out, at, n / 10, left - 1);
-    out[next] = (48 + n % 10) as u8;
+    out[next] = b'0' + (n % 10) as u8;
     next + 1
 }
 

@@ -1,36 +1,21 @@
 -- What `replay` answers and leaves, from what its parts wrote. Assumes nothing.
-use mathlib.Core.Path.{◌≡◌, refl, sym, ap, ◌∙◌}
+use mathlib.Core.Path.{◌≡◌, refl, ap, ◌∙◌}
 use mathlib.Core.Bool.{true, false}
 use mathlib.Core.List.{List, ◌++◌}
-use Prim.Native.Nat.{ℕ, ◌-◌, ◌/◌, ◌<◌, ◌≤◌}
+use Prim.Native.Nat.{ℕ, ◌<◌, ◌≤◌}
 use native.Mathlib.Omega.{arith}
 use lib.Dec.{leb}
 use lib.ListN.{length, drop}
-use borrow.Author.Tests.{lt-ltb, le-ltb, le-leb, lt-leb, leb-true, leb-false}
-use Rattle.laws.proofs.Cases.{split}
+use borrow.Author.Tests.{lt-ltb, le-ltb, le-leb}
 use Rattle.lent_bytes.specs.Writing.{Wrote}
 use Rattle.lent_bytes.proofs.Writing.{stored_first}
 use Rattle.trace.specs.Reading.{items}
 use Rattle.trace.specs.Order.{file_limit}
-use Rattle.listing.specs.declared.Replayed.{Replayed}
-use Rattle.listing.specs.declared.Replayed.TheVariants.{Written, TooShort}
+use Rattle.std.specs.Prelude.{Ok, Err}
 use Rattle.listing.specs.Listing.{beginning, stop_line, listing}
-use Rattle.listing.specs.Replay.{room_each, room_more, room, file_bytes, text_bytes, short_file, short_text_bytes, replayed, buffer_after, said_replayed}
+use Rattle.listing.specs.Replay.{room, file_bytes, text_bytes, short_file, short_text_bytes, Replayed, replayed, buffer_after, said_replayed}
 use Rattle.listing.specs.Computed.{text_from}
 use Rattle.listing.proofs.Lengths.{listing_fits}
-
--- the test of the buffer's length, without a product that could be too large
-pub room_none : (n lent : ℕ) → lent < room_more → false ≡ leb (room n) lent
-unfolding room
-room_none n lent l = sym (lt-leb (room n) lent (omega arith))
-
-pub room_test : (n lent : ℕ) → room_more ≤ lent → leb n ((lent - room_more) / room_each) ≡ leb (room n) lent
-unfolding room
-room_test n lent l =
-    split
-    (leb n ((lent - room_more) / room_each))
-    (λ y. y ∙ sym (le-leb (room n) lent (let h : n ≤ (lent - room_more) / room_each = leb-true _ _ y in omega arith)))
-    (λ x. x ∙ sym (lt-leb (room n) lent (let h : (lent - room_more) / room_each < n = leb-false _ _ x in omega arith)))
 
 pub listing_long : (file : List ℕ) → file_limit < length file → stop_line 0 33 ≡ listing file
 unfolding listing
@@ -46,38 +31,22 @@ Answered file lent out r =
     record { value : r ≡ replayed file (length lent); text : out ≡ buffer_after file lent; says : said_replayed r ≡ said_replayed (replayed file (length lent)) }
 
 module _ (file lent : List ℕ) where
-  pub answered_short : leb (room (length file)) (length lent) ≡ false → Answered file lent lent TooShort
+  pub answered_short : leb (room (length file)) (length lent) ≡ false → Answered file lent lent (Err (record {}))
   unfolding replayed buffer_after
   answered_short e = rw e (record { value = refl; text = refl; says = refl })
 
   pub answered
       : {m end : ℕ} {out : List ℕ} (text : List ℕ) → leb (room (length file)) (length lent) ≡ true → text ≡ listing file → Wrote m lent 0 text out end
-      → Answered file lent out (Written end)
+      → Answered file lent out (Ok end)
   unfolding replayed buffer_after
-  answered text e t w =
-      let n : Written _ ≡ Written (length (listing file)) = ap Written (w.ends ∙ (omega arith) ∙ ap length t) in
+  answered {end = end} text e t w =
+      let n : ◌≡◌ {A = Replayed} (Ok end) (Ok (length (listing file))) = ap Ok (w.ends ∙ (omega arith) ∙ ap length t) in
       rw e (record { value = n; text = w.holds ∙ rw t; says = ap said_replayed n })
 
   -- a buffer with room is never too short
-  pub has_room : room (length file) ≤ length lent → replayed file (length lent) ≡ Written (length (listing file))
+  pub has_room : room (length file) ≤ length lent → replayed file (length lent) ≡ Ok (length (listing file))
   unfolding replayed
   has_room l = rw (le-leb (room (length file)) (length lent) l)
-
-  -- what is written lies within the buffer
-  pub written_fits : (n : ℕ) → Written n ≡ replayed file (length lent) → n ≤ length lent
-  unfolding replayed
-  written_fits n e =
-      split
-      (leb (room (length file)) (length lent))
-      (λ y.
-      let w : Written n ≡ Written (length (listing file)) = rw y at e in
-      let h : n ≡ length (listing file) = cc in
-      let l : room (length file) ≤ length lent = leb-true _ _ y in
-      omega (arith, listing_fits file))
-      (λ f.
-      let w : Written n ≡ TooShort = rw f at e in
-      let z : ◌≡◌ {A = ℕ} 0 1 = cc in
-      absurd (omega arith))
 
   -- the bytes at exit, in plain words: the whole text, then what stood there
   pub buffer_is : room (length file) ≤ length lent → buffer_after file lent ≡ listing file ++ drop (length (listing file)) lent

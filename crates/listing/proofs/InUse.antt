@@ -2,31 +2,28 @@
 use mathlib.Core.Path.{◌≡◌}
 use mathlib.Core.Bool.{true, false}
 use mathlib.Core.List.{List, []}
-use Prim.Native.Nat.{ℕ, ◌+◌, ◌*◌, ◌≤◌}
-use native.Mathlib.Nat.{le_antisymm}
+use Prim.Native.Nat.{ℕ, ◌+◌, ◌*◌}
 use native.Mathlib.Omega.{arith}
 use Rattle.laws.specs.Loops.{join_to}
 use Rattle.laws.proofs.Join.{join_none, join_more}
 use Rattle.model.specs.declared.State.{State}
 use Rattle.model.specs.State.{here, server_at, task_at}
 use Rattle.listing.specs.Listing.{server_text, server_line, task_text, task_line}
-use Rattle.lent_bytes.specs.Writing.{Wrote}
-use Rattle.lent_bytes.proofs.Writing.{wrote_none, wrote_then, wrote_most}
+use Rattle.listing.specs.declared.writer.Writer.{Writer}
+use Rattle.listing.specs.Writer.{Writes}
+use Rattle.listing.proofs.Writing.{writes_none, writes_then, writes_most}
 
 module _ (m : ℕ) (f : ℕ → List ℕ) where
-  pub lines_none : (l : List ℕ) (at : ℕ) → Wrote (m * 0) l at (join_to 0 f) l at
-  lines_none l at = rw (← join_none f) (wrote_most (omega arith) (wrote_none l at))
+  pub lines_none : (w : Writer) → Writes (m * 0) w (join_to 0 f) w
+  lines_none w = rw (← join_none f) (writes_most (omega arith) (writes_none w))
 
   pub lines_more
-      : {l k o : List ℕ} {at e g : ℕ} (i : ℕ) (text : List ℕ)
-      → Wrote (m * i) l at (join_to i f) k e → text ≡ f i → Wrote m k e text o g → Wrote (m * (i + 1)) l at (join_to (i + 1) f) o g
-  lines_more i text w e v = rw (← join_more f i (join_to i f) text e (λ j. join_to i f)) (wrote_most (omega arith) (wrote_then w v))
+      : {w v u : Writer} (i : ℕ) (text : List ℕ)
+      → Writes (m * i) w (join_to i f) v → text ≡ f i → Writes m v text u → Writes (m * (i + 1)) w (join_to (i + 1) f) u
+  lines_more i text h e g = rw (← join_more f i (join_to i f) text e (λ j. join_to i f)) (writes_most (omega arith) (writes_then h g))
 
-  pub lines_skip : {l k : List ℕ} {at e : ℕ} (i : ℕ) → Wrote (m * i) l at (join_to i f) k e → [] ≡ f i → Wrote (m * (i + 1)) l at (join_to (i + 1) f) k e
-  lines_skip {k = k} {e = e} i w q = lines_more i [] w q (wrote_most (omega arith) (wrote_none k e))
-
-  pub lines_done : {l k : List ℕ} {at e : ℕ} (i n : ℕ) → i ≤ n → n ≤ i → Wrote (m * i) l at (join_to i f) k e → Wrote (m * n) l at (join_to n f) k e
-  lines_done i n a b w = rw (← le_antisymm a b) w
+  pub lines_skip : {w v : Writer} (i : ℕ) → Writes (m * i) w (join_to i f) v → [] ≡ f i → Writes (m * (i + 1)) w (join_to (i + 1) f) v
+  lines_skip {v = v} i h q = lines_more i [] h q (writes_most (omega arith) (writes_none v))
 
 module _ (st : State) (i : ℕ) where
   pub server_line_lem : here st i ≡ true → server_text i (server_at st i) ≡ server_line st i

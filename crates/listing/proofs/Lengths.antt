@@ -1,5 +1,5 @@
 -- The longest that each line and the whole text can be: every listing fits the room that its file's length asks (`listing_fits`). Assumes nothing.
-use Rattle.std.specs.Prelude.{if◌then◌else◌}
+use Rattle.std.specs.Prelude.{if◌then◌else◌, Ok, Err, Some, None}
 use mathlib.Core.Path.{◌≡◌, refl}
 use mathlib.Core.Bool.{Bool, true, false}
 use mathlib.Core.List.{List, []}
@@ -18,9 +18,7 @@ use Rattle.model.specs.State.{places, here, server_at, task_at}
 use Rattle.model.specs.Step.{stepped}
 use Rattle.trace.specs.declared.Record.{Record}
 use Rattle.trace.specs.declared.Record.TheVariants.{Counts, Reservation, Happening}
-use Rattle.trace.specs.declared.Read.{Read}
-use Rattle.trace.specs.declared.Read.TheVariants.{Got, End, Fault}
-use Rattle.trace.specs.Reading.{read_at, items_after, items_from, items_at, items}
+use Rattle.trace.specs.Reading.{Read, read_at, items_after, items_from, items_at, items}
 use Rattle.trace.specs.Order.{Stage, opening, entering, complete, order_refusal, advanced, file_limit}
 use Rattle.trace.proofs.Items.{read_moves}
 use Rattle.lent_bytes.specs.Text.{bytes, digits, digits_most, decimal}
@@ -125,11 +123,11 @@ read_most
     : (left : ℕ) (file : List ℕ) (at : ℕ) (p : Progress) (r : Read) → read_at file at ≡ r
     → ((next : ℕ) (q : Progress) → length (items_text (items_from left file next) q) ≤ left_over (length file) next)
     → length (read_text (items_text (items_after (items_from left file) r)) p at r) ≤ left_over (length file) at
-read_most left file at p (Got r q) e h =
-    let m = read_moves file at r q e in
-    record_most (items_text (items_from left file q.at)) p at q.at (length file) (order_refusal p.stage r) r m.0 m.1 (h q.at)
-read_most left file at p End e h = omega (arith, closing_most p.stage p.state at)
-read_most left file at p (Fault n) e h = omega (arith, stop_most at n)
+read_most left file at p (Ok (Some found)) e h =
+    let m = read_moves file at found.0 found.1 e in
+    record_most (items_text (items_from left file found.1.at)) p at found.1.at (length file) (order_refusal p.stage found.0) found.0 m.0 m.1 (h found.1.at)
+read_most left file at p (Ok None) e h = omega (arith, closing_most p.stage p.state at)
+read_most left file at p (Err n) e h = omega (arith, stop_most at n)
 
 items_most : (left : ℕ) (file : List ℕ) (at : ℕ) (p : Progress) → length (items_text (items_from left file at) p) ≤ left_over (length file) at
 unfolding items_from items_text

@@ -6,6 +6,7 @@ use mathlib.Core.List.{List, [], ◌∷◌, ◌++◌, append_assoc}
 use Prim.Native.Nat.{ℕ, ◌+◌, ◌*◌, ◌≤◌}
 use native.Mathlib.Omega.{arith}
 use lib.ListN.{length}
+use Rattle.std.specs.Prelude.{Ok, Err, Some, None}
 use Rattle.model.specs.declared.Table.{Table}
 use Rattle.model.specs.declared.State.{State}
 use Rattle.model.specs.declared.Event.{Event}
@@ -17,17 +18,16 @@ use Rattle.theory.proofs.Outcomes.{stepped_sound}
 use Rattle.theory.proofs.Soundness.{kept}
 use Rattle.trace.specs.declared.Place.{Place}
 use Rattle.trace.specs.declared.Record.TheVariants.{Counts, Reservation, Happening}
-use Rattle.trace.specs.declared.Read.{Read}
-use Rattle.trace.specs.declared.Read.TheVariants.{Got, End, Fault}
-use Rattle.trace.specs.Reading.{read_at, items_at}
+use Rattle.trace.specs.Reading.{Read, got, read_at, items_at}
 use Rattle.trace.specs.Order.{complete, counted_table}
 use Rattle.trace.proofs.Items.{read_moves}
 use Rattle.listing.specs.Text.{event_line_most}
 use Rattle.listing.specs.Listing.{Progress, event_line, read_text, items_text}
 use Rattle.listing.specs.Replay.{room_each, room_more, room}
-use Rattle.listing.specs.Computed.{text_from, running}
-use Rattle.lent_bytes.specs.Writing.{Wrote}
-use Rattle.lent_bytes.proofs.Writing.{wrote_none, wrote_then, wrote_most}
+use Rattle.listing.specs.Computed.{text_from, running, Listed}
+use Rattle.listing.specs.declared.writer.Writer.{Writer}
+use Rattle.listing.specs.Writer.{HasRoom, Writes}
+use Rattle.listing.proofs.Writing.{writes_none, writes_then, writes_most}
 use Rattle.listing.proofs.Texts.{text_event}
 
 -- past the table the text does not depend on it
@@ -38,11 +38,11 @@ rest_same
     : (rest : Progress → List ℕ) (at : ℕ) (r : Read) (tb u : Table) (st : State) (n : ℕ)
     → ((s : State) (m : ℕ) → rest (past tb s m) ≡ rest (past u s m))
     → read_text rest (past tb st n) at r ≡ read_text rest (past u st n) at r
-rest_same rest at (Got (Counts a b c) q) tb u st n h = refl
-rest_same rest at (Got (Reservation e) q) tb u st n h = refl
-rest_same rest at (Got (Happening e) q) tb u st n h = ap (λ l. event_line (n + 1) (stepped st e).answer ++ l) (h (stepped st e).state (n + 1))
-rest_same rest at End tb u st n h = refl
-rest_same rest at (Fault k) tb u st n h = refl
+rest_same rest at (Ok (Some (Counts a b c, q))) tb u st n h = refl
+rest_same rest at (Ok (Some (Reservation e, q))) tb u st n h = refl
+rest_same rest at (Ok (Some (Happening e, q))) tb u st n h = ap (λ l. event_line (n + 1) (stepped st e).answer ++ l) (h (stepped st e).state (n + 1))
+rest_same rest at (Ok None) tb u st n h = refl
+rest_same rest at (Err k) tb u st n h = refl
 
 table_gone : (is : List (ℕ × Read)) (tb u : Table) (st : State) (n : ℕ) → items_text is (past tb st n) ≡ items_text is (past u st n)
 unfolding items_text
@@ -53,11 +53,11 @@ pub running_is : (file : List ℕ) (tb : Table) (st : State) (n at : ℕ) → te
 unfolding text_from
 running_is file tb st n at = table_gone (items_at file at) tb (counted_table 0 0 0) st n
 
-pub record SoFar (file lent : List ℕ) (from : ℕ) (fresh : State) (out : List ℕ) (at : ℕ) (st : State) (events written : ℕ) : Type 0 where
+pub record SoFar (file : List ℕ) (lent : Writer) (from : ℕ) (fresh : State) (out : Writer) (at : ℕ) (st : State) (events : ℕ) : Type 0 where
   pub text : List ℕ
   pub inside : at ≤ length file
   pub numbered : events ≤ at
-  pub wrote : Wrote (room_each * at) lent 0 text out written
+  pub writes : Writes (room_each * at) lent text out
   pub rest : text ++ text_from file (running st events) at ≡ text_from file (running fresh 0) from
   pub shaped : Shaped st
   pub is_sound : sound st ≡ true
@@ -67,24 +67,24 @@ pub attempted_stepped : (st : State) (e : Event) → sound st ≡ true → attem
 unfolding attempted
 attempted_stepped st e s = sym (stepped_sound st e s)
 
-module _ {file lent : List ℕ} {from : ℕ} {fresh : State} where
-  pub so_far_start : from ≤ length file → Shaped fresh × (sound fresh ≡ true) → SoFar file lent from fresh lent from fresh 0 0
+module _ {file : List ℕ} {lent : Writer} {from : ℕ} {fresh : State} where
+  pub so_far_start : from ≤ length file → Shaped fresh × (sound fresh ≡ true) → SoFar file lent from fresh lent from fresh 0
   so_far_start l s =
       record {
         text = [];
         inside = l;
         numbered = omega arith;
-        wrote = wrote_most (omega arith) (wrote_none lent 0);
+        writes = writes_most (omega arith) (writes_none lent);
         rest = refl;
         shaped = s.0;
         is_sound = s.1;
       }
 
-  module _ {out : List ℕ} {at : ℕ} {st : State} {events written : ℕ} (h : SoFar file lent from fresh out at st events written) where
+  module _ {out : Writer} {at : ℕ} {st : State} {events : ℕ} (h : SoFar file lent from fresh out at st events) where
     pub so_far_turn
-        : {to : List ℕ} {next : ℕ} (e : Event) (q : Place) (o : Outcome)
-        → read_at file at ≡ Got (Happening e) q → o ≡ attempted st e → Wrote event_line_most out written (event_line (events + 1) o.answer) to next
-        → SoFar file lent from fresh to q.at o.state (events + 1) next
+        : {to : Writer} (e : Event) (q : Place) (o : Outcome)
+        → read_at file at ≡ got (Happening e) q → o ≡ attempted st e → Writes event_line_most out (event_line (events + 1) o.answer) to
+        → SoFar file lent from fresh to q.at o.state (events + 1)
     so_far_turn e q o g a w =
         let m = read_moves file at (Happening e) q g in
         let s : o ≡ stepped st e = a ∙ attempted_stepped st e h.is_sound in
@@ -94,7 +94,7 @@ module _ {file lent : List ℕ} {from : ℕ} {fresh : State} where
           text = h.text ++ line;
           inside = m.1;
           numbered = omega (arith, h.numbered);
-          wrote = wrote_most (omega arith) (wrote_then h.wrote w);
+          writes = writes_most (omega arith) (writes_then h.writes w);
           rest =
               append_assoc h.text line (text_from file (running o.state (events + 1)) q.at)
               ∙ ap (λ l. h.text ++ l)
@@ -105,15 +105,14 @@ module _ {file lent : List ℕ} {from : ℕ} {fresh : State} where
           is_sound = rw s k.1;
         }
 
-    -- there is room for a line, and for the last lines
-    pub so_far_room : (n : ℕ) → n ≤ room_more → room (length file) ≤ length lent → written + n ≤ length out
+    -- there is room for a line
+    pub so_far_room : (n : ℕ) → n ≤ room_more → HasRoom lent (room (length file)) → HasRoom out n
     unfolding room
-    so_far_room n l r = omega (arith, h.inside, h.wrote.within, h.wrote.kept)
+    so_far_room n l r = omega (arith, h.inside, h.writes.wrote.within, h.writes.wrote.kept)
 
     -- the last text of all
     pub so_far_end
-        : {to : List ℕ} {end m : ℕ} (last : List ℕ) → m ≤ room_more → text_from file (running st events) at ≡ last → Wrote m out written last to end
-        → Wrote (room (length file)) lent 0 (text_from file (running fresh 0) from) to end
-    unfolding room
-    so_far_end last l e w =
-        rw (← h.rest, e) (wrote_most (omega (arith, h.inside)) (wrote_then h.wrote w))
+        : (last : List ℕ) → text_from file (running st events) at ≡ last
+        → Listed (length file) lent (text_from file (running fresh 0) from) last out
+    so_far_end last e =
+        record { lines = h.text; writes = writes_most (omega (arith, h.inside)) h.writes; whole = rw (← e) h.rest }

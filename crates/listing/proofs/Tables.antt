@@ -9,23 +9,23 @@ use native.Mathlib.Numerals.{add-one}
 use native.Mathlib.Omega.{arith}
 use lib.Dec.{ltb}
 use lib.Pow.{pow_pos}
-use lib.ListN.{length, get_or-replicate, length-set}
+use lib.ListN.{get_or-replicate, length-set}
 use lib.Seq.{get_or-set_same, get_or-set_other}
 use borrow.Author.Tests.{lt-ltb, le-ltb, ltb-true}
+use Rattle.std.specs.Prelude.{Ok, Err}
 use Rattle.laws.specs.Tests.{first_of}
 use Rattle.laws.specs.Loops.{fold_to}
 use Rattle.laws.proofs.Cases.{split, or_none}
 use Rattle.laws.proofs.Fold.{fold_keeps, last_or_below}
 use Rattle.model.specs.declared.Entry.{Entry}
 use Rattle.model.specs.declared.Table.{Table}
-use Rattle.model.specs.declared.FreshAnswer.TheVariants.{Made, Refused}
 use Rattle.model.specs.State.{places}
 use Rattle.model.specs.Sound.{counts_fit}
 use Rattle.model.specs.Fresh.{no_entry, entry_at, counts_refusal, entry_refusal, task_refusal, fresh_refusal, fresh_state, fresh_by, fresh_of}
 use Rattle.model.proofs.Sound.{counts_fact}
 use Rattle.fresh.proofs.Refusals.{refused_stays, counts_refused, counts_accepted}
 use Rattle.trace.specs.Order.{counted_table, with_entry}
-use Rattle.listing.specs.Computed.{blameless, counts_alone}
+use Rattle.listing.specs.Computed.{blameless, counts_alone, Entered}
 
 -- the first tasks of a table
 abbrev pub first : ℕ → Table → Table
@@ -58,13 +58,6 @@ counts_tested p t r =
     rw (counts_accepted (counts_alone p t r) y, counts_accepted (counted_table p t r) y)
     (none_refused (counts_alone p t r) places (λ i l m. rw (get_or-replicate places i blameless no_entry l) (blameless_accepted r))))
     (λ n. rw (counts_refused (counts_alone p t r) n, counts_refused (counted_table p t r) n) (refused_stays (counts_alone p t r) places 19))
-
--- k entries of the table read, and none refused
-pub record Entered (tb : Table) (k : ℕ) : Type 0 where
-  pub fit : counts_fit tb.processors tb.tasks tb.resources ≡ true
-  pub most : k ≤ tb.tasks
-  pub whole : length tb.entry ≡ places
-  pub good : (i : ℕ) → i < k → entry_refusal tb.resources (entry_at tb i) ≡ none
 
 pub whole_accepted : (tb : Table) → Entered tb tb.tasks → fresh_refusal tb ≡ none
 unfolding fresh_refusal
@@ -122,13 +115,13 @@ module _ (tb : Table) (k : ℕ) (e : Entry) (h : Entered tb k) (l : k < tb.tasks
       (refusal_to_lem places (omega (arith, tasks_most)))
 
 -- what fresh's answer says of its refusal
-pub fresh_refused : (tb : Table) (o : Option ℕ) (n : ℕ) → (fresh_by o tb).answer ≡ Refused n → o ≡ some n
-fresh_refused tb none n e = let z : ◌≡◌ {A = ℕ} 0 1 = cc in absurd (omega arith)
+pub fresh_refused : (tb : Table) (o : Option ℕ) (n : ℕ) → (fresh_by o tb).answer ≡ Err n → o ≡ some n
+fresh_refused tb none n e = grind arith
 fresh_refused tb (some m) n e = cc
 
-pub fresh_made : (tb : Table) (o : Option ℕ) → (fresh_by o tb).answer ≡ Made → (o ≡ none) × ((fresh_by o tb).state ≡ fresh_state tb)
-fresh_made tb none e = (refl, refl)
-fresh_made tb (some m) e = let z : ◌≡◌ {A = ℕ} 0 1 = cc in absurd (omega arith)
+pub fresh_made : (tb : Table) (o : Option ℕ) → (fresh_by o tb).answer ≡ Ok tt → o ≡ none
+fresh_made tb none e = refl
+fresh_made tb (some m) e = grind arith
 
 pub fresh_state_lem : (tb : Table) → fresh_refusal tb ≡ none → (fresh_of tb).state ≡ fresh_state tb
 unfolding fresh_of

@@ -1,5 +1,5 @@
 -- The whole text that `replay` prints for a file: rule 14. Assumes nothing.
-use Rattle.std.specs.Prelude.{List, [], ◌∷◌, ◌++◌, ℕ, ◌+◌, ltb, length, if◌then◌else◌}
+use Rattle.std.specs.Prelude.{List, [], ◌∷◌, ◌++◌, ℕ, ◌+◌, ltb, length, if◌then◌else◌, Ok, Err, Some, None}
 use Rattle.std.proofs.Math.Option.{Option, none, some}
 use Rattle.laws.specs.Loops.{join_to}
 use Rattle.model.specs.declared.Server.{Server}
@@ -12,9 +12,7 @@ use Rattle.model.specs.Step.{stepped}
 use Rattle.model.specs.Said.{said}
 use Rattle.trace.specs.declared.Record.{Record}
 use Rattle.trace.specs.declared.Record.TheVariants.{Counts, Reservation, Happening}
-use Rattle.trace.specs.declared.Read.{Read}
-use Rattle.trace.specs.declared.Read.TheVariants.{Got, End, Fault}
-use Rattle.trace.specs.Reading.{items}
+use Rattle.trace.specs.Reading.{Read, items}
 use Rattle.trace.specs.Order.{Stage, opening, entering, complete, order_refusal, advanced, file_limit}
 use Rattle.lent_bytes.specs.Text.{bytes, decimal}
 use Rattle.listing.specs.Text.{field, following, newline, spelled, phase_word}
@@ -83,9 +81,9 @@ record_text rest p at none (Happening e) = event_line (p.events + 1) (stepped p.
 
 -- a reading: each is tested in its turn, so that the first fault of the file is the one told, after the lines of what came before it (rule 14.3)
 abbrev pub read_text : (Progress → List ℕ) → Progress → ℕ → Read → List ℕ
-read_text rest p at (Got r q) = record_text rest p at (order_refusal p.stage r) r
-read_text rest p at End = end_text p.stage p.state at
-read_text rest p at (Fault n) = stop_line at n
+read_text rest p at (Ok (Some found)) = record_text rest p at (order_refusal p.stage found.0) found.0
+read_text rest p at (Ok None) = end_text p.stage p.state at
+read_text rest p at (Err n) = stop_line at n
 
 unfoldable pub items_text : List (ℕ × Read) → Progress → List ℕ
 items_text [] p = []

@@ -1,11 +1,10 @@
 -- What `replay` answers and what it leaves in the buffer lent to it. Assumes nothing.
-use Rattle.std.specs.Prelude.{List, ℕ, ◌+◌, ◌*◌, leb, length, if◌then◌else◌}
+use Rattle.std.specs.Prelude.{List, ℕ, ◌+◌, ◌*◌, leb, length, if◌then◌else◌, Result, Ok, Err}
 use Rattle.std.proofs.Math.Option.{none}
 use Rattle.lent_bytes.specs.Writing.{stored}
 use Rattle.model.specs.Said.{Saying, ok, refused}
 use Rattle.trace.specs.Order.{file_limit}
-use Rattle.listing.specs.declared.Replayed.{Replayed}
-use Rattle.listing.specs.declared.Replayed.TheVariants.{Written, TooShort}
+use Rattle.listing.specs.declared.TooShort.{TooShort}
 use Rattle.listing.specs.Listing.{listing}
 
 -- How long a buffer must be for a file of so many bytes (law `listing_fits`): an event's line has at most 72 bytes and its record 6 or more, which is
@@ -33,8 +32,11 @@ abbrev pub short_text_bytes : ℕ
 short_text_bytes = room short_file
 
 -- the answer, from the file and the length of the buffer
+abbrev pub Replayed : Type 0
+Replayed = Result ℕ TooShort
+
 unfoldable pub replayed : List ℕ → ℕ → Replayed
-replayed file lent = if leb (room (length file)) lent then Written (length (listing file)) else TooShort
+replayed file lent = if leb (room (length file)) lent then Ok (length (listing file)) else Err (record {})
 
 -- the buffer afterwards: the whole text and, after it, what stood there; a buffer that is too short stays as it was
 unfoldable pub buffer_after : List ℕ → List ℕ → List ℕ
@@ -42,5 +44,5 @@ buffer_after file lent = if leb (room (length file)) (length lent) then stored l
 
 -- the rules have no number for a buffer that is too short: it is told as `refused` and 0
 abbrev pub said_replayed : Replayed → Saying
-said_replayed (Written n) = (ok, n, none)
-said_replayed TooShort = (refused, 0, none)
+said_replayed (Ok n) = (ok, n, none)
+said_replayed (Err short) = (refused, 0, none)

@@ -1,8 +1,7 @@
 // The buffers of a program that replays: for a file up to one byte past the limit, for the listing of every such file, and for that of a short one, so
-// that a short trace is listed without a long buffer to clear. Each contract also says how long the buffer is, so that no proof above has to write the
+// that a short trace is listed without a long buffer to clear. The contract also says how long a buffer is, so that no proof above has to write the
 // zeros out. Assumes nothing.
 ghost use Rattle.std.specs.Prelude.{◌≡◌, length, replicate};
-ghost use Rattle.listing.specs.Replay.{file_bytes, text_bytes, short_text_bytes};
 
 // Rule 13.7.
 pub const FILE_LIMIT: usize = 60000;
@@ -21,23 +20,10 @@ pub const SHORT_FILE: usize = 4000;
 
 pub const SHORT_TEXT_BYTES: usize = ROOM_EACH * SHORT_FILE + ROOM_MORE;
 
-pub fn file_buffer() -> [u8; FILE_BYTES]
-    ensures value { result ≡ replicate file_bytes 0 }
-    ensures long { file_bytes ≡ length result }
+// So many zeros.
+pub fn buffer<const N: usize>() -> [u8; N]
+    ensures value { result ≡ replicate N 0 }
+    ensures long { N ≡ length result }
 {
-    [0; FILE_BYTES]
-}
-
-pub fn text_buffer() -> [u8; TEXT_BYTES]
-    ensures value { result ≡ replicate text_bytes 0 }
-    ensures long { text_bytes ≡ length result }
-{
-    [0; TEXT_BYTES]
-}
-
-pub fn short_text_buffer() -> [u8; SHORT_TEXT_BYTES]
-    ensures value { result ≡ replicate short_text_bytes 0 }
-    ensures long { short_text_bytes ≡ length result }
-{
-    [0; SHORT_TEXT_BYTES]
+    [0; N]
 }

@@ -1,98 +1,86 @@
 // What stands after the events where a trace is good to its end (rule 14.2): `end` and the clock, then a line for each server and for each task. Each
-// function is given a buffer that has room for the longest text that it can write.
-ghost use Rattle.std.specs.Prelude.{◌++◌, ◌+◌, ◌*◌, ◌≤◌, length};
+// method is given room for the longest text that it can write.
+ghost use Rattle.std.specs.Prelude.{◌≡◌, ◌*◌, ◌≤◌, length};
 ghost use Rattle.laws.specs.Loops.{join_to};
-ghost use Rattle.lent_bytes.specs.Text.{bytes};
-ghost use Rattle.lent_bytes.specs.Writing.{Wrote};
 ghost use Rattle.model.specs.State.{places};
-ghost use Rattle.listing.specs.Text.{field, phase_word, phase_most, short_line_most, server_phase_most, server_line_most, end_lines_most};
+ghost use Rattle.listing.specs.Text.{phase_word, phase_most, short_line_most, server_line_most, end_lines_most};
 ghost use Rattle.listing.specs.Listing.{server_text, server_line, task_text, task_line, end_lines};
+ghost use Rattle.listing.specs.Writer.{HasRoom, Writes};
 
-use crate::lines::{put_field, put_line, put_named, put_pair};
-use lent_bytes::text::put_text;
+use crate::writer::Writer;
+use model::entries::in_use;
 use model::{Phase, Server, State};
 
-fn put_phase(out: &mut [u8], at: usize, phase: Phase) -> usize
-    requires { at + phase_most ≤ length out.old }
-    ensures { Wrote phase_most out.old at (phase_word phase) out.new result }
+#[tactic(auto, unfolding(crate::specs::Text::phase_word, lent_bytes::specs::Text::bytes))]
+fn phase_word(phase: Phase) -> &'static [u8]
+    ensures word { result.now ≡ phase_word phase }
+    ensures short { length result.now ≤ phase_most }
 {
     match phase {
-        Phase::Idle => put_text(out, at, b"idle"),
-        Phase::Active => put_text(out, at, b"active"),
-        Phase::Running => put_text(out, at, b"running"),
-        Phase::Recharging => put_text(out, at, b"recharging"),
+        Phase::Idle => b"idle",
+        Phase::Active => b"active",
+        Phase::Running => b"running",
+        Phase::Recharging => b"recharging",
     }
 }
 
-// The first half of a server's line, up to its phase.
-fn put_state(out: &mut [u8], at: usize, s: usize, phase: Phase) -> usize
-    requires { at + server_phase_most ≤ length out.old }
-    ensures { Wrote server_phase_most out.old at (bytes "server" ++ field s ++ bytes " " ++ phase_word phase) out.new result }
-{
-    let mut next = put_named(out, at, b"server", s);
-    next = put_text(out, next, b" ");
-    put_phase(out, next, phase)
-}
+impl Writer<'_> {
+    fn put_server(&mut self, s: usize, server: Server)
+        requires { HasRoom self.old server_line_most }
+        ensures { Writes server_line_most self.old (server_text s server) self.new }
+    {
+        self.put_named(b"server", s);
+        self.put_text(b" ");
+        self.put_text(phase_word(server.phase));
+        self.put_field(server.budget as usize);
+        self.put_field(server.deadline as usize);
+        self.put_field(server.own as usize);
+        self.put_field(server.lent as usize);
+        self.put_field(server.spin as usize);
+        self.put_text(b"\n");
+    }
 
-// A server's whole line.
-fn put_server(out: &mut [u8], at: usize, s: usize, server: Server) -> usize
-    requires { at + server_line_most ≤ length out.old }
-    ensures { Wrote server_line_most out.old at (server_text s server) out.new result }
-{
-    let phase = server.phase;
-    let mut next = put_state(out, at, s, phase);
-    next = put_pair(out, next, server.budget as usize, server.deadline as usize);
-    next = put_pair(out, next, server.own as usize, server.lent as usize);
-    next = put_field(out, next, server.spin as usize);
-    put_text(out, next, b"\n")
-}
-
-// The lines of the servers in use.
-fn put_servers(out: &mut [u8], at: usize, st: State) -> usize
-    requires { at + places * server_line_most ≤ length out.old }
-    ensures { Wrote (places * server_line_most) out.old at (join_to places (server_line st)) out.new result }
-{
-    let tasks = st.tasks;
-    let mut next = at;
-    for s in 0..16usize {
-        if model::entries::in_use(tasks, s) {
-            let server = st.server[s];
-            next = put_server(out, next, s, server);
+    // The lines of the servers in use.
+    fn put_servers(&mut self, st: &State)
+        requires { HasRoom self.old (places * server_line_most) }
+        ensures { Writes (places * server_line_most) self.old (join_to places (server_line st.now)) self.new }
+    {
+        for (s, server) in st.server.iter().enumerate() {
+            if in_use(st.tasks, s) {
+                self.put_server(s, *server);
+            }
         }
     }
-    next
-}
 
-// A task's line.
-fn put_task(out: &mut [u8], at: usize, t: usize, executed: u32) -> usize
-    requires { at + short_line_most ≤ length out.old }
-    ensures { Wrote short_line_most out.old at (task_text t executed) out.new result }
-{
-    put_line(out, at, b"task", t, executed as usize)
-}
+    #[tactic(auto, unfolding(lent_bytes::specs::Text::bytes))]
+    fn put_task(&mut self, t: usize, executed: u32)
+        requires { HasRoom self.old short_line_most }
+        ensures { Writes short_line_most self.old (task_text t executed) self.new }
+    {
+        self.put_line(b"task", t, executed as usize);
+    }
 
-fn put_tasks(out: &mut [u8], at: usize, st: State) -> usize
-    requires { at + places * short_line_most ≤ length out.old }
-    ensures { Wrote (places * short_line_most) out.old at (join_to places (task_line st)) out.new result }
-{
-    let tasks = st.tasks;
-    let mut next = at;
-    for t in 0..16usize {
-        if model::entries::in_use(tasks, t) {
-            let task = st.task[t];
-            next = put_task(out, next, t, task.executed);
+    // The lines of the tasks in use. It stays beside `put_servers`: one function of both would be generic over a trait with a line's text and its longest
+    // length, and would be longer than the two loops.
+    fn put_tasks(&mut self, st: &State)
+        requires { HasRoom self.old (places * short_line_most) }
+        ensures { Writes (places * short_line_most) self.old (join_to places (task_line st.now)) self.new }
+    {
+        for (t, task) in st.task.iter().enumerate() {
+            if in_use(st.tasks, t) {
+                self.put_task(t, task.executed);
+            }
         }
     }
-    next
-}
 
-// The whole close of a listing.
-pub fn put_end(out: &mut [u8], at: usize, st: State) -> usize
-    requires { at + end_lines_most ≤ length out.old }
-    ensures { Wrote end_lines_most out.old at (end_lines st) out.new result }
-{
-    let mut next = put_named(out, at, b"end", st.clock as usize);
-    next = put_text(out, next, b"\n");
-    next = put_servers(out, next, st);
-    put_tasks(out, next, st)
+    // The whole close of a listing.
+    pub(crate) fn put_end(&mut self, st: &State)
+        requires { HasRoom self.old end_lines_most }
+        ensures { Writes end_lines_most self.old (end_lines st.now) self.new }
+    {
+        self.put_named(b"end", st.clock as usize);
+        self.put_text(b"\n");
+        self.put_servers(st);
+        self.put_tasks(st);
+    }
 }

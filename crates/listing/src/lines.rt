@@ -1,86 +1,88 @@
-// Fields and lines of the listing, written from an offset on; each function answers the offset after what it wrote. Each is given a buffer that has
-// room for the longest text that it can write.
-ghost use Rattle.std.specs.Prelude.{◌++◌, ◌+◌, ◌≤◌, length};
-ghost use Rattle.lent_bytes.specs.Writing.{Wrote};
-ghost use Rattle.listing.specs.Text.{field, newline, field_most, pair_most, answer_most, short_line_most, event_line_most};
+// The lines of the listing for events and for the stop. Each method is given room for the longest text that it can write.
+ghost use Rattle.std.specs.Prelude.{◌≡◌, ◌++◌, ◌≤◌, length};
+ghost use Rattle.model.specs.Refusals.{refusal_no};
+ghost use Rattle.listing.specs.Text.{field, answer_most, short_line_most, event_line_most};
 ghost use Rattle.listing.specs.Listing.{answer_text, event_line, stop_line};
+ghost use Rattle.listing.specs.Writer.{HasRoom, Writes};
+ghost use Rattle.listing.specs.Computed.{saying_text};
 
-use lent_bytes::text::{put_number, put_text};
+use crate::Stop;
+use crate::writer::Writer;
 use model::Answer;
 
-// A number after a space.
-pub fn put_field(out: &mut [u8], at: usize, n: usize) -> usize
-    requires { at + field_most ≤ length out.old }
-    ensures { Wrote field_most out.old at (field n) out.new result }
-{
-    let next = put_text(out, at, b" ");
-    put_number(out, next, n)
+// What an answer says: a word, a number, and the number that follows it, where one does.
+#[derive(Clone, Copy)]
+struct Saying {
+    word: &'static [u8],
+    number: u16,
+    following: Option<u16>,
 }
 
-// Two numbers, each after a space.
-pub fn put_pair(out: &mut [u8], at: usize, m: usize, n: usize) -> usize
-    requires { at + pair_most ≤ length out.old }
-    ensures { Wrote pair_most out.old at (field m ++ field n) out.new result }
-{
-    let next = put_field(out, at, m);
-    put_field(out, next, n)
-}
-
-// A word and a number after it.
-pub fn put_named(out: &mut [u8], at: usize, word: &[u8], n: usize) -> usize
-    requires { at + (length word.now + field_most) ≤ length out.old }
-    ensures { Wrote (length word.now + field_most) out.old at (word.now ++ field n) out.new result }
-{
-    let next = put_text(out, at, word);
-    put_field(out, next, n)
-}
-
-// A line of a word and two numbers.
-pub fn put_line(out: &mut [u8], at: usize, word: &[u8], m: usize, n: usize) -> usize
-    requires { at + (length word.now + (pair_most + 1)) ≤ length out.old }
-    ensures { Wrote (length word.now + (pair_most + 1)) out.old at (word.now ++ field m ++ field n ++ newline) out.new result }
-{
-    let mut next = put_named(out, at, word, m);
-    next = put_field(out, next, n);
-    put_text(out, next, b"\n")
-}
-
-// Rule 14.3.
-pub fn put_stop(out: &mut [u8], at: usize, offset: usize, number: u16) -> usize
-    requires { at + short_line_most ≤ length out.old }
-    ensures { Wrote short_line_most out.old at (stop_line offset number) out.new result }
-{
-    put_line(out, at, b"stop", offset, number as usize)
-}
-
-// An answer's word and number, and what follows.
-fn put_answer(out: &mut [u8], at: usize, answer: Answer) -> usize
-    requires { at + answer_most ≤ length out.old }
-    ensures { Wrote answer_most out.old at (answer_text answer) out.new result }
-{
-    match answer {
-        Answer::Ok(n) => put_named(out, at, b"ok", n as usize),
-        Answer::Executes(t) => put_named(out, at, b"executes", t.0 as usize),
-        Answer::Spins(t) => put_named(out, at, b"spins", t.0 as usize),
-        Answer::Granted(r) => put_named(out, at, b"granted", r as usize),
-        Answer::Waits(t) => put_named(out, at, b"waits", t.0 as usize),
-        Answer::Passed(t) => put_named(out, at, b"passed", t.0 as usize),
-        Answer::Freed(r) => put_named(out, at, b"freed", r as usize),
-        Answer::Refused(n) => put_named(out, at, b"refused", n as usize),
-        Answer::RefusedWaiting(r) => {
-            let next = put_text(out, at, b"refused");
-            put_pair(out, next, 62, r as usize)
+impl Saying {
+    fn of(word: &'static [u8], number: u16) -> Saying
+        ensures text { saying_text result ≡ word.now ++ field number }
+        ensures word { result.word.now ≡ word.now }
+    {
+        Saying {
+            word,
+            number,
+            following: None,
         }
     }
 }
 
-// Rule 14.1.
-pub fn put_event(out: &mut [u8], at: usize, number: usize, answer: Answer) -> usize
-    requires { at + event_line_most ≤ length out.old }
-    ensures { Wrote event_line_most out.old at (event_line number answer) out.new result }
+#[tactic(auto, unfolding(crate::specs::Text::spelled, lent_bytes::specs::Text::bytes))]
+fn said(answer: Answer) -> Saying
+    ensures text { saying_text result ≡ answer_text answer }
+    ensures short { length result.word.now ≤ 8 }
 {
-    let mut next = put_number(out, at, number);
-    next = put_text(out, next, b" ");
-    next = put_answer(out, next, answer);
-    put_text(out, next, b"\n")
+    match answer {
+        Answer::Ok(n) => Saying::of(b"ok", n),
+        Answer::Executes(t) => Saying::of(b"executes", t.0),
+        Answer::Spins(t) => Saying::of(b"spins", t.0),
+        Answer::Granted(r) => Saying::of(b"granted", r),
+        Answer::Waits(t) => Saying::of(b"waits", t.0),
+        Answer::Passed(t) => Saying::of(b"passed", t.0),
+        Answer::Freed(r) => Saying::of(b"freed", r),
+        Answer::Refused(n) => Saying::of(b"refused", n),
+        Answer::RefusedWaiting(r) => Saying {
+            word: b"refused",
+            number: 62,
+            following: Some(r),
+        },
+    }
+}
+
+impl Writer<'_> {
+    // Rule 14.3.
+    #[tactic(auto, unfolding(crate::specs::Listing::stop_line, lent_bytes::specs::Text::bytes))]
+    pub(crate) fn put_stop(&mut self, stop: Stop)
+        requires { HasRoom self.old short_line_most }
+        ensures { Writes short_line_most self.old (stop_line stop.at (refusal_no stop.refusal)) self.new }
+    {
+        self.put_line(b"stop", stop.at, u16::from(stop.refusal) as usize);
+    }
+
+    // An answer's word and number, and what follows.
+    fn put_answer(&mut self, answer: Answer)
+        requires { HasRoom self.old answer_most }
+        ensures { Writes answer_most self.old (answer_text answer) self.new }
+    {
+        let saying = said(answer);
+        self.put_named(saying.word, saying.number as usize);
+        if let Some(number) = saying.following {
+            self.put_field(number as usize);
+        }
+    }
+
+    // Rule 14.1.
+    pub(crate) fn put_event(&mut self, number: usize, answer: Answer)
+        requires { HasRoom self.old event_line_most }
+        ensures { Writes event_line_most self.old (event_line number answer) self.new }
+    {
+        self.put_number(number);
+        self.put_text(b" ");
+        self.put_answer(answer);
+        self.put_text(b"\n");
+    }
 }

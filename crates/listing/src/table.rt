@@ -1,139 +1,92 @@
 // Replay up to the first event: the table's records, each tested as it is read. Fresh does the testing: of the counts alone, then of the table so far.
-// Each function is given a buffer with room for the listing of every file of the trace's length.
-ghost use Rattle.std.specs.Prelude.{◌≡◌, true, ◌≤◌, length};
-ghost use Rattle.std.proofs.Math.Option.{none};
-ghost use Rattle.lent_bytes.specs.Writing.{Wrote};
-ghost use Rattle.model.specs.Fresh.{fresh_refusal, fresh_state, fresh_of};
-ghost use Rattle.model.specs.Sound.{counts_fit};
-ghost use Rattle.trace.specs.Order.{entering, counted_table};
-ghost use Rattle.listing.specs.Listing.{beginning, started};
-ghost use Rattle.listing.specs.Replay.{room};
-ghost use Rattle.listing.specs.Computed.{text_from, unread_number, refusal_number, counts_alone};
+// Nothing is written; where a record is not taken, the listing stops there. Assumes what each function asks.
+ghost use Rattle.std.specs.Prelude.{◌≡◌, ◌+◌, ◌<◌, MatchResult};
+ghost use Rattle.model.specs.Refusals.{numbered};
+ghost use Rattle.trace.specs.Reading.{read_at};
+ghost use Rattle.listing.specs.Computed.{table_record, Begun, Refuses, TableRead};
 
-use crate::lines::put_stop;
-use model::{Entry, FreshAnswer, State, Table};
-use trace::{Place, Read, Record};
+use crate::Stop;
+use fresh::start::fresh;
+use model::limits::no_entry;
+use model::{Entry, Refusal, State, Table};
+use trace::{Place, Record};
 
-// What is told where a table's record cannot be read: the reader's fault, or 32 at the file's end (rule 13.6).
-fn unread_number(read: Read) -> u16
-    ensures { result ≡ unread_number read }
+// A record of the table: where none can be read, the reader's refusal, or 32 at the file's end (rule 13.6).
+fn table_record(file: &[u8], place: Place) -> Result<(Record, Place), Refusal>
+    ensures { numbered result ≡ table_record (read_at file.now place.at) }
 {
-    let Read::Fault(number) = read else {
-        return 32;
+    let Some(found) = place.read(file)? else {
+        return Err(Refusal::OutOfOrder);
     };
-    number
+    Ok(found)
 }
 
-// The number of fresh's refusal, 0 where it made a state.
-fn refusal_number(answer: FreshAnswer) -> u16
-    ensures { result ≡ refusal_number answer }
+// The counts (rule 13.4), as a table that has no entries yet, and the place after them. They are tested on a table whose entries no test refuses (law
+// `counts_tested`).
+fn read_counts(file: &[u8]) -> Result<(Table, Place), Refusal>
+    ensures { MatchResult result (λ found. Begun file.now found.0 found.1.at 0) (Refuses file.now 0) }
 {
-    let FreshAnswer::Refused(number) = answer else {
-        return 0;
+    let (record, next) = table_record(file, Place { at: 0 })?;
+    let Record::Counts(processors, tasks, resources) = record else {
+        return Err(Refusal::OutOfOrder);
     };
-    number
-}
-
-fn fresh_answer(table: Table) -> FreshAnswer
-    ensures { result ≡ (fresh_of table).answer }
-{
-    let begun = fresh::start::fresh(table);
-    begun.answer
-}
-
-// The state of a table that fresh does not refuse.
-fn fresh_state(table: Table) -> State
-    requires { fresh_refusal table ≡ none }
-    ensures { result ≡ fresh_state table }
-{
-    let begun = fresh::start::fresh(table);
-    begun.state
-}
-
-// The test of the counts alone, on a table whose entries no test refuses (law `counts_tested`).
-fn counts_answer(processors: u16, tasks: u16, resources: u16) -> FreshAnswer
-    ensures { result ≡ (fresh_of (counts_alone processors tasks resources)).answer }
-{
     let blameless = Entry {
         quota: 1,
         period: 1,
         declared: 0,
     };
-    let entry = [blameless; 16];
-    fresh_answer(Table {
+    let counts = Table {
         processors,
         tasks,
         resources,
-        entry,
-    })
+        entry: [blameless; 16],
+    };
+    fresh(counts).answer?;
+    let table = Table {
+        entry: [no_entry(); 16],
+        ..counts
+    };
+    Ok((table, next))
 }
 
-// The lines of the tasks (rule 13.4): each is tested by fresh on the table so far, of which it is the last (law `entry_tested`).
-fn put_from_entries(
-    file: &[u8],
-    out: &mut [u8],
-    start: Place,
-    processors: u16,
-    tasks: u16,
-    resources: u16,
-) -> usize
-    requires resources_value { counts_fit processors tasks resources ≡ true }
-    requires at_in_bounds { (start.at ≤ length file.now) × (room (length file.now) ≤ length out.old) }
-    ensures { Wrote (room (length file.now)) out.old 0 (text_from file.now (started (entering (counted_table processors tasks resources) 0)) start.at) out.new result }
+// The line of task k (rule 13.4), in the table so far, and the place after it. It is tested by fresh on the table so far, of which it is the last (law
+// `entry_tested`).
+fn read_entry(file: &[u8], place: Place, table: Table, k: u16) -> Result<(Table, Place), Refusal>
+    requires below { k < table.tasks }
+    requires so_far { Begun file.now table place.at k }
+    ensures { MatchResult result
+        (λ found. Begun file.now found.0 found.1.at (k + 1) × (found.0.tasks ≡ table.tasks))
+        (Refuses file.now place.at) }
 {
-    let none = Entry {
-        quota: 0,
-        period: 0,
-        declared: 0,
+    let (record, next) = table_record(file, place)?;
+    let Record::Reservation(reservation) = record else {
+        return Err(Refusal::OutOfOrder);
     };
-    let mut entry = [none; 16];
-    let mut place = start;
-    for k in 0..tasks {
+    let mut longer = table;
+    longer.entry[k as usize] = reservation;
+    let so_far = Table {
+        tasks: k + 1,
+        ..longer
+    };
+    fresh(so_far).answer?;
+    Ok((longer, next))
+}
+
+// The whole table: the state that it starts and the place of the first event, or where the listing stops.
+pub(crate) fn read_table(file: &[u8]) -> Result<(State, Place), Stop>
+    ensures { MatchResult result
+        (λ found. TableRead file.now found.0 found.1.at)
+        (λ stop. Refuses file.now stop.at stop.refusal) }
+{
+    let (mut table, mut place) = read_counts(file).map_err(|refusal| Stop { at: 0, refusal })?;
+    for k in 0..table.tasks {
         let at = place.at;
-        let read = place.read(file);
-        let Read::Got(record, next) = read else {
-            return put_stop(out, 0, at, unread_number(read));
-        };
-        let Record::Reservation(reservation) = record else {
-            return put_stop(out, 0, at, 32);
-        };
-        entry[k as usize] = reservation;
-        let answer = fresh_answer(Table {
-            processors,
-            tasks: k + 1,
-            resources,
-            entry,
-        });
-        let FreshAnswer::Made = answer else {
-            return put_stop(out, 0, at, refusal_number(answer));
-        };
+        let (longer, next) = read_entry(file, place, table, k).map_err(|refusal| Stop {
+            at,
+            refusal,
+        })?;
+        table = longer;
         place = next;
     }
-    let state = fresh_state(Table {
-        processors,
-        tasks,
-        resources,
-        entry,
-    });
-    crate::happenings::put_from_events(file, out, place, state)
-}
-
-// From the counts on (rule 13.4): the whole listing of a file that is not too long (law `listing_read`).
-pub fn put_listing(file: &[u8], out: &mut [u8]) -> usize
-    requires { room (length file.now) ≤ length out.old }
-    ensures { Wrote (room (length file.now)) out.old 0 (text_from file.now beginning 0) out.new result }
-{
-    let start = Place { at: 0 };
-    let read = start.read(file);
-    let Read::Got(record, next) = read else {
-        return put_stop(out, 0, 0, unread_number(read));
-    };
-    let Record::Counts(processors, tasks, resources) = record else {
-        return put_stop(out, 0, 0, 32);
-    };
-    let answer = counts_answer(processors, tasks, resources);
-    let FreshAnswer::Made = answer else {
-        return put_stop(out, 0, 0, refusal_number(answer));
-    };
-    put_from_entries(file, out, next, processors, tasks, resources)
+    Ok((fresh(table).state, place))
 }

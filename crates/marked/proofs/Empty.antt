@@ -24,13 +24,12 @@ use Rattle.model.specs.State.{server_at}
 use Rattle.model.specs.Fresh.{fresh_state}
 use Rattle.model.specs.Step.{stepped}
 use Rattle.bound.specs.declared.Sections.{Sections}
-use Rattle.bound.specs.declared.Bounded.{Bounded}
-use Rattle.bound.specs.Answer.{answer, said}
+use Rattle.bound.specs.Answer.{Bounded, answer, said}
 use Rattle.listing.specs.Text.{field, newline, spelled}
 use Rattle.listing.specs.Listing.{event_line, listing}
 use Rattle.marked.specs.Example.{Example, Holds, AllHold, ◌and◌, nothing}
 use Rattle.marked.specs.Trace.{wake, trace_of}
-use Rattle.marked.specs.Marked.{table_r, events_r, three_tasks, table}
+use Rattle.marked.specs.Marked.{table_r, events_r, three_tasks}
 use Rattle.marked.proofs.Examples.{first_wake, marked}
 
 -- what the example of that number says, from 0 on

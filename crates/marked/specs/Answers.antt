@@ -1,8 +1,7 @@
 -- What single events answer, on the desk and beside it: refusals 2 to 18 and 61 to 63, of which the first is told where several apply. Assumes nothing.
-use Rattle.std.specs.Prelude.{List, [], ◌∷◌, ℕ}
+use Rattle.std.specs.Prelude.{List, [], ◌∷◌, ℕ, None}
 use Rattle.model.specs.declared.Phase.TheVariants.{Active, Running, Recharging}
 use Rattle.model.specs.declared.Mode.TheVariants.{Ready, Waiting}
-use Rattle.model.specs.declared.Runs.TheVariants.{Nowhere}
 use Rattle.model.specs.declared.Server.{Server}
 use Rattle.model.specs.declared.State.{State}
 use Rattle.model.specs.declared.Event.{Event}
@@ -21,13 +20,13 @@ abbrev pub ring : State
 ring =
     state_of 1 0
     (server Active 10 20 10 20 0 0 0 ∷ server Active 10 20 10 20 0 0 0 ∷ server Running 10 20 10 20 0 0 0 ∷ [])
-    (task (Waiting 1) Nowhere 7 (0 ∷ []) 0 ∷ task (Waiting 2) Nowhere 7 (1 ∷ []) 0 ∷ task Ready (on 2) 7 (2 ∷ []) 0 ∷ [])
+    (task (Waiting 1) None 7 (0 ∷ []) 0 ∷ task (Waiting 2) None 7 (1 ∷ []) 0 ∷ task Ready (on 2) 7 (2 ∷ []) 0 ∷ [])
     (resource (by 0) [] ∷ resource (by 1) (0 ∷ []) ∷ resource (by 2) (1 ∷ []) ∷ [])
 
 -- the desk with both processors free: task 0 executes nowhere
 abbrev pub stopped : State
 stopped =
-    with_server 0 (server Active 7 20 10 20 3 0 0) (with_task 0 (task Ready Nowhere 3 (0 ∷ 1 ∷ []) 3) (other_server 1 (server Active 7 20 10 20 0 0 3)))
+    with_server 0 (server Active 7 20 10 20 3 0 0) (with_task 0 (task Ready None 3 (0 ∷ 1 ∷ []) 3) (other_server 1 (server Active 7 20 10 20 0 0 3)))
 
 -- a server without budget, with this deadline
 abbrev pub spent : ℕ → Server

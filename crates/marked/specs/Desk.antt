@@ -1,9 +1,7 @@
 -- One state that shows much at once: two tasks on one resource, one ready, one asleep, both processors taken. Assumes nothing.
-use Rattle.std.specs.Prelude.{List, [], ◌∷◌}
+use Rattle.std.specs.Prelude.{List, [], ◌∷◌, None}
 use Rattle.model.specs.declared.Phase.TheVariants.{Idle, Active, Running}
 use Rattle.model.specs.declared.Mode.TheVariants.{Suspended, Ready, Waiting}
-use Rattle.model.specs.declared.Runs.TheVariants.{Nowhere}
-use Rattle.model.specs.declared.Owner.TheVariants.{Nobody}
 use Rattle.model.specs.declared.State.{State}
 use Rattle.model.specs.declared.Table.{Table}
 use Rattle.model.specs.declared.Event.{Event}
@@ -24,5 +22,5 @@ abbrev pub desk : State
 desk =
     state_of 2 3
     (server Running 7 20 10 20 3 0 0 ∷ server Running 7 20 10 20 0 0 3 ∷ server Active 10 20 10 20 0 0 0 ∷ server Idle 10 0 10 20 0 0 0 ∷ [])
-    (task Ready (on 0) 3 (0 ∷ 1 ∷ []) 3 ∷ task (Waiting 0) Nowhere 3 [] 0 ∷ task Ready Nowhere 4 [] 0 ∷ task Suspended Nowhere 4 [] 0 ∷ [])
-    (resource (by 0) (1 ∷ []) ∷ resource (by 0) [] ∷ resource Nobody [] ∷ [])
+    (task Ready (on 0) 3 (0 ∷ 1 ∷ []) 3 ∷ task (Waiting 0) None 3 [] 0 ∷ task Ready None 4 [] 0 ∷ task Suspended None 4 [] 0 ∷ [])
+    (resource (by 0) (1 ∷ []) ∷ resource (by 0) [] ∷ resource None [] ∷ [])

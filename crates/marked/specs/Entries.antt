@@ -1,16 +1,13 @@
 -- States entry by entry: how the examples write them down. Assumes nothing.
-use Rattle.std.specs.Prelude.{List, ◌++◌, map, ℕ, ◌-◌, length, replicate}
+use Rattle.std.specs.Prelude.{List, ◌++◌, map, ℕ, ◌-◌, length, replicate, Some}
 use Rattle.model.specs.declared.TaskNo.{TaskNo}
 use Rattle.model.specs.declared.Phase.{Phase}
 use Rattle.model.specs.declared.Mode.{Mode}
-use Rattle.model.specs.declared.Runs.{Runs}
-use Rattle.model.specs.declared.Owner.{Owner}
-use Rattle.model.specs.declared.Owner.TheVariants.{By}
 use Rattle.model.specs.declared.Server.{Server}
 use Rattle.model.specs.declared.Task.{Task}
 use Rattle.model.specs.declared.Resource.{Resource}
 use Rattle.model.specs.declared.State.{State}
-use Rattle.model.specs.State.{places}
+use Rattle.model.specs.State.{Runs, Owner, places}
 use Rattle.model.specs.Fresh.{blank_server, blank_task, blank_resource}
 
 -- a list up to its sixteen places
@@ -33,7 +30,7 @@ abbrev pub resource : Owner → List ℕ → Resource
 resource o queue = record { owner = o; waiting = length queue; queue = padded (number_of 0) (map number_of queue) }
 
 abbrev pub by : ℕ → Owner
-by t = By (number_of t)
+by t = Some (number_of t)
 
 -- processors and clock; the entries in use, all others as in a fresh state
 abbrev pub state_of : ℕ → ℕ → List Server → List Task → List Resource → State

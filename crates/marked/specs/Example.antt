@@ -3,7 +3,7 @@ use Rattle.std.specs.Prelude.{◌≡◌, Bool, true, List, [], ◌∷◌, map, �
 use Prim.Native.String.{String}
 use Rattle.reordering.specs.Run.{after, log}
 use Rattle.model.specs.declared.Phase.{Phase}
-use Rattle.model.specs.declared.Runs.{Runs}
+use Rattle.model.specs.State.{Runs}
 use Rattle.model.specs.declared.Server.{Server}
 use Rattle.model.specs.declared.Task.{Task}
 use Rattle.model.specs.declared.State.{State}
@@ -12,18 +12,16 @@ use Rattle.model.specs.declared.Event.{Event}
 use Rattle.model.specs.declared.Answer.{Answer}
 use Rattle.model.specs.declared.Answer.TheVariants.{Ok, Refused}
 use Rattle.model.specs.declared.Outcome.{Outcome}
-use Rattle.model.specs.declared.FreshOutcome.{FreshOutcome}
 use Rattle.model.specs.declared.Row.{Row}
 use Rattle.model.specs.Sound.{sound}
-use Rattle.model.specs.Fresh.{fresh_state, fresh_of}
+use Rattle.model.specs.Fresh.{Start, fresh_state, fresh_of}
 use Rattle.model.specs.Step.{stepped, move}
 use Rattle.model.specs.Meter.{metered}
 use Rattle.model.specs.Groups.{group_of}
 use Rattle.bound.specs.declared.Sections.{Sections}
-use Rattle.bound.specs.declared.Bounded.{Bounded}
+use Rattle.bound.specs.Answer.{Bounded}
 use Rattle.bound.specs.Answer as bound
-use Rattle.trace.specs.declared.Read.{Read}
-use Rattle.trace.specs.Reading.{read_at}
+use Rattle.trace.specs.Reading.{Read, read_at}
 use Rattle.lent_bytes.specs.Text.{bytes}
 use Rattle.listing.specs.Listing.{listing}
 use Rattle.marked.specs.Clauses.{Clause, broken}
@@ -50,7 +48,7 @@ pub data Example : Type 0 where
   -- the groups of a state's tasks and of the numbers after them, from 0 on
   groups : State → List ℕ → Example
   -- what fresh makes of a table
-  starts : Table → FreshOutcome → Example
+  starts : Table → Start → Example
   -- what reading a file at a place gives
   reads : List ℕ → ℕ → Read → Example
   -- lent meter rows, the answer, and the rows afterwards

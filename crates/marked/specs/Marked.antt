@@ -1,19 +1,16 @@
 -- The examples that have to be proved by one theorem, in the order in which they were asked for: one table. Assumes nothing.
-use Rattle.std.specs.Prelude.{List, [], ◌∷◌, ◌++◌, ℕ, ◌-◌, length, replicate}
+use Rattle.std.specs.Prelude.{List, [], ◌∷◌, ◌++◌, ℕ, ◌-◌, length, replicate, None, Some, Err}
 use Rattle.model.specs.declared.Phase.TheVariants.{Active, Running, Recharging}
-use Rattle.model.specs.declared.Runs.{Runs}
-use Rattle.model.specs.declared.Runs.TheVariants.{Nowhere, In}
+use Rattle.model.specs.State.{Runs}
 use Rattle.model.specs.declared.Table.{Table}
 use Rattle.model.specs.declared.Event.{Event}
 use Rattle.model.specs.declared.Event.TheVariants.{Elapse}
 use Rattle.model.specs.declared.Answer.TheVariants.{Ok, Refused}
 use Rattle.model.specs.Events.{with_clock}
-use Rattle.bound.specs.declared.Parent.{Parent}
-use Rattle.bound.specs.declared.Parent.TheVariants.{Outermost, Inside}
 use Rattle.bound.specs.declared.Section.{Section}
 use Rattle.bound.specs.declared.Sections.{Sections}
-use Rattle.bound.specs.declared.Bounded.TheVariants as bounded
-use Rattle.bound.specs.Table.{no_section}
+use Rattle.bound.specs.Answer.{bounded}
+use Rattle.bound.specs.Table.{Parent, no_section}
 use Rattle.marked.specs.Trace.{line, table_of, wake, suspend, dispatch, preempt, recharge, lock, unlock, trace_of}
 use Rattle.marked.specs.Example.{Example, prints, leads, answers, refuses, bounds, last_state}
 
@@ -28,7 +25,7 @@ events_r =
 
 -- in server s
 abbrev pub on : ℕ → Runs
-on s = In (record { 0 = s })
+on s = Some (record { 0 = s })
 
 -- task 0 executes in server 0 and holds resource 0, for which tasks 1 and 2 wait, spinning in servers with these budgets
 abbrev pub spinners : ℕ → ℕ → Table
@@ -62,7 +59,7 @@ sections_of t xs = record { tasks = t; count = length xs; section = xs ++ replic
 abbrev pub three_tasks : Sections
 three_tasks =
     sections_of 3
-    (section 0 1 5 Outermost ∷ section 1 0 9 Outermost ∷ section 1 1 4 (Inside 1) ∷ section 2 0 8 Outermost ∷ section 2 1 3 (Inside 3) ∷ [])
+    (section 0 1 5 None ∷ section 1 0 9 None ∷ section 1 1 4 (Some 1) ∷ section 2 0 8 None ∷ section 2 1 3 (Some 3) ∷ [])
 
 abbrev pub table : List Example
 table =
@@ -71,13 +68,13 @@ table =
     ∷ answers (with_clock 30 (last_state table_r events_r)) (recharge 2) (Ok 1)
     ∷ refuses (Elapse 0) 10
     ∷ refuses (Elapse 1000001) 10
-    ∷ leads (spinners 5 5) (spinning ++ preempt 0 ∷ []) (Ok 1) (Active ∷ Running ∷ Running ∷ []) (on 1 ∷ Nowhere ∷ Nowhere ∷ [])
-    ∷ leads (spinners 5 6) (spinning ++ preempt 0 ∷ []) (Ok 1) (Active ∷ Running ∷ Running ∷ []) (on 2 ∷ Nowhere ∷ Nowhere ∷ [])
-    ∷ leads table_closing closing (Refused 16) (Running ∷ Running ∷ []) (Nowhere ∷ on 1 ∷ [])
-    ∷ leads table_together together (Ok 2) (Recharging ∷ Recharging ∷ []) (Nowhere ∷ Nowhere ∷ [])
-    ∷ bounds three_tasks 0 1000000 (bounded.Bound 4 4)
-    ∷ bounds three_tasks 1 1000000 (bounded.Bound 18 6)
-    ∷ bounds three_tasks 2 1000000 (bounded.Bound 19 6)
-    ∷ bounds three_tasks 0 3 (bounded.Refused 46)
-    ∷ bounds three_tasks 0 4 (bounded.Bound 4 4)
+    ∷ leads (spinners 5 5) (spinning ++ preempt 0 ∷ []) (Ok 1) (Active ∷ Running ∷ Running ∷ []) (on 1 ∷ None ∷ None ∷ [])
+    ∷ leads (spinners 5 6) (spinning ++ preempt 0 ∷ []) (Ok 1) (Active ∷ Running ∷ Running ∷ []) (on 2 ∷ None ∷ None ∷ [])
+    ∷ leads table_closing closing (Refused 16) (Running ∷ Running ∷ []) (None ∷ on 1 ∷ [])
+    ∷ leads table_together together (Ok 2) (Recharging ∷ Recharging ∷ []) (None ∷ None ∷ [])
+    ∷ bounds three_tasks 0 1000000 (bounded 4 4)
+    ∷ bounds three_tasks 1 1000000 (bounded 18 6)
+    ∷ bounds three_tasks 2 1000000 (bounded 19 6)
+    ∷ bounds three_tasks 0 3 (Err 46)
+    ∷ bounds three_tasks 0 4 (bounded 4 4)
     ∷ []

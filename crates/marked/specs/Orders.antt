@@ -1,9 +1,7 @@
 -- Groups, and what demand 3 needs its premises for: events in two orders. Assumes nothing.
-use Rattle.std.specs.Prelude.{List, [], ◌∷◌, ◌++◌}
+use Rattle.std.specs.Prelude.{List, [], ◌∷◌, ◌++◌, None}
 use Rattle.model.specs.declared.Phase.TheVariants.{Active, Running}
 use Rattle.model.specs.declared.Mode.TheVariants.{Ready, Waiting}
-use Rattle.model.specs.declared.Runs.TheVariants.{Nowhere}
-use Rattle.model.specs.declared.Owner.TheVariants.{Nobody}
 use Rattle.model.specs.declared.State.{State}
 use Rattle.model.specs.declared.Table.{Table}
 use Rattle.model.specs.declared.Event.{Event}
@@ -31,8 +29,8 @@ abbrev pub later : State
 later =
     state_of 2 3
     (server Running 7 20 10 20 3 0 0 ∷ server Running 7 20 10 20 0 0 3 ∷ server Active 10 20 10 20 0 0 0 ∷ server Active 10 23 10 20 0 0 0 ∷ [])
-    (task Ready (on 0) 3 (0 ∷ []) 3 ∷ task (Waiting 0) Nowhere 3 [] 0 ∷ task Ready Nowhere 4 [] 0 ∷ task Ready Nowhere 4 [] 0 ∷ [])
-    (resource (by 0) (1 ∷ []) ∷ resource Nobody [] ∷ resource Nobody [] ∷ [])
+    (task Ready (on 0) 3 (0 ∷ []) 3 ∷ task (Waiting 0) None 3 [] 0 ∷ task Ready None 4 [] 0 ∷ task Ready None 4 [] 0 ∷ [])
+    (resource (by 0) (1 ∷ []) ∷ resource None [] ∷ resource None [] ∷ [])
 
 -- tasks 0 and 1 share resource 0; task 2 is a group of its own
 abbrev pub pair : State

@@ -1,7 +1,6 @@
 -- Runs from a fresh table: what is easily got wrong, and what tells wrong variants of the events and of rule H apart. Assumes nothing.
-use Rattle.std.specs.Prelude.{List, [], ◌∷◌, ◌++◌, take}
+use Rattle.std.specs.Prelude.{List, [], ◌∷◌, ◌++◌, take, None}
 use Rattle.model.specs.declared.Phase.TheVariants.{Idle, Active, Running, Recharging}
-use Rattle.model.specs.declared.Runs.TheVariants.{Nowhere}
 use Rattle.model.specs.declared.Table.{Table}
 use Rattle.model.specs.declared.Event.{Event}
 use Rattle.model.specs.declared.Event.TheVariants.{Elapse}
@@ -59,23 +58,23 @@ nesting = wake 0 ∷ dispatch 0 ∷ lock 0 0 ∷ lock 0 1 ∷ []
 
 abbrev pub runs : List Example
 runs =
-    leads table_passing passing (passed 1) (Running ∷ Active ∷ Running ∷ []) (on 0 ∷ on 2 ∷ Nowhere ∷ [])
+    leads table_passing passing (passed 1) (Running ∷ Active ∷ Running ∷ []) (on 0 ∷ on 2 ∷ None ∷ [])
     -- what was passed lies on top, above what its new owner held before
-    ∷ leads table_passing (passing ++ unlock 1 1 ∷ []) (Freed 1) (Running ∷ Active ∷ Running ∷ []) (on 0 ∷ on 2 ∷ Nowhere ∷ [])
-    ∷ leads table_two homeless (passed 1) (Recharging ∷ Running ∷ []) (Nowhere ∷ on 1 ∷ [])
-    ∷ leads table_two asleep (waits 0) (Idle ∷ Idle ∷ []) (Nowhere ∷ Nowhere ∷ [])
-    ∷ leads table_two (asleep ++ wake 0 ∷ []) (Ok 2) (Active ∷ Active ∷ []) (Nowhere ∷ Nowhere ∷ [])
-    ∷ leads (spinners 5 9) acting (passed 1) (Active ∷ Running ∷ Running ∷ []) (Nowhere ∷ on 1 ∷ Nowhere ∷ [])
-    ∷ leads (spinners 5 9) both (passed 1) (Running ∷ Running ∷ Active ∷ []) (on 0 ∷ on 1 ∷ Nowhere ∷ [])
+    ∷ leads table_passing (passing ++ unlock 1 1 ∷ []) (Freed 1) (Running ∷ Active ∷ Running ∷ []) (on 0 ∷ on 2 ∷ None ∷ [])
+    ∷ leads table_two homeless (passed 1) (Recharging ∷ Running ∷ []) (None ∷ on 1 ∷ [])
+    ∷ leads table_two asleep (waits 0) (Idle ∷ Idle ∷ []) (None ∷ None ∷ [])
+    ∷ leads table_two (asleep ++ wake 0 ∷ []) (Ok 2) (Active ∷ Active ∷ []) (None ∷ None ∷ [])
+    ∷ leads (spinners 5 9) acting (passed 1) (Active ∷ Running ∷ Running ∷ []) (None ∷ on 1 ∷ None ∷ [])
+    ∷ leads (spinners 5 9) both (passed 1) (Running ∷ Running ∷ Active ∷ []) (on 0 ∷ on 1 ∷ None ∷ [])
     ∷ leads (spinners 5 9) handed_on (passed 2) (Running ∷ Running ∷ Running ∷ []) (on 0 ∷ on 1 ∷ on 2 ∷ [])
     -- the server that executed the locker goes on with the chain's end; the next to wait behind it is told the end, and not the owner
-    ∷ leads table_behind behind (waits 0) (Active ∷ Running ∷ Running ∷ []) (on 1 ∷ Nowhere ∷ Nowhere ∷ [])
-    ∷ leads table_passing (take 10 passing) (waits 0) (Running ∷ Running ∷ Running ∷ []) (on 0 ∷ Nowhere ∷ Nowhere ∷ [])
+    ∷ leads table_behind behind (waits 0) (Active ∷ Running ∷ Running ∷ []) (on 1 ∷ None ∷ None ∷ [])
+    ∷ leads table_passing (take 10 passing) (waits 0) (Running ∷ Running ∷ Running ∷ []) (on 0 ∷ None ∷ None ∷ [])
     -- the last locked is the first to be unlocked
     ∷ leads table_nested (nesting ++ unlock 0 0 ∷ []) (Refused 18) (Running ∷ []) (on 0 ∷ [])
     ∷ leads table_nested (nesting ++ unlock 0 1 ∷ unlock 0 0 ∷ []) (Freed 0) (Running ∷ []) (on 0 ∷ [])
     -- not Recharging, though the deadline is to come too
-    ∷ leads table_two (wake 0 ∷ recharge 0 ∷ []) (Refused 13) (Active ∷ Idle ∷ []) (Nowhere ∷ Nowhere ∷ [])
+    ∷ leads table_two (wake 0 ∷ recharge 0 ∷ []) (Refused 13) (Active ∷ Idle ∷ []) (None ∷ None ∷ [])
     -- a woken server has its budget anew and a deadline from now on
     ∷ prints (trace_of table_two (wake 1 ∷ dispatch 1 ∷ Elapse 4 ∷ suspend 1 ∷ Elapse 1 ∷ wake 1 ∷ []))
     "1 ok 1\n2 executes 1\n3 ok 0\n4 ok 1\n5 ok 0\n6 ok 1\nend 5\nserver 0 idle 2 0 0 0 0\nserver 1 active 9 25 4 0 0\ntask 0 0\ntask 1 4\n"

@@ -1,15 +1,12 @@
 -- Fresh states with refusals 19 to 21, and meter rows. Assumes nothing.
-use Rattle.std.specs.Prelude.{List, [], ◌∷◌, ◌++◌, ℕ, replicate}
+use Rattle.std.specs.Prelude.{List, [], ◌∷◌, ◌++◌, ℕ, replicate, None, Ok, Err}
 use Rattle.model.specs.declared.Phase.TheVariants.{Idle, Active, Running, Recharging}
 use Rattle.model.specs.declared.Mode.TheVariants.{Suspended}
-use Rattle.model.specs.declared.Runs.TheVariants.{Nowhere}
-use Rattle.model.specs.declared.Owner.TheVariants.{Nobody}
 use Rattle.model.specs.declared.Phase.{Phase}
 use Rattle.model.specs.declared.State.{State}
 use Rattle.model.specs.declared.Table.{Table}
 use Rattle.model.specs.declared.Row.{Row}
 use Rattle.model.specs.declared.Answer.TheVariants as answer
-use Rattle.model.specs.declared.FreshAnswer.TheVariants.{Made, Refused}
 use Rattle.model.specs.Fresh.{fresh_state}
 use Rattle.trace.specs.Order.{counted_table}
 use Rattle.marked.specs.Clauses.{someProcessor, someTask}
@@ -23,7 +20,7 @@ abbrev pub useless : State
 useless = state_of 0 0 [] [] []
 
 abbrev pub refused : Table → ℕ → Example
-refused tb n = starts tb (record { answer = Refused n; state = useless })
+refused tb n = starts tb (record { answer = Err n; state = useless })
 
 -- a table that says two tasks, with these lines
 abbrev pub two_of : Table → Table
@@ -49,11 +46,11 @@ beginnings =
     -- all asleep and Idle with budget Q and deadline 0; lines past the tasks are ignored, bad ones too
     starts (two_of (table_of 3 1 (line 5 20 1 ∷ line 7 30 0 ∷ line 0 9 65535 ∷ [])))
     (record {
-      answer = Made;
+      answer = Ok tt;
       state = state_of 3 0 (server Idle 5 0 5 20 0 0 0 ∷ server Idle 7 0 7 30 0 0 0 ∷ [])
-          (task Suspended Nowhere 1 [] 0 ∷ task Suspended Nowhere 0 [] 0 ∷ []) (resource Nobody [] ∷ []);
+          (task Suspended None 1 [] 0 ∷ task Suspended None 0 [] 0 ∷ []) (resource None [] ∷ []);
     })
-    ∷ starts greatest (record { answer = Made; state = fresh_state greatest })
+    ∷ starts greatest (record { answer = Ok tt; state = fresh_state greatest })
     -- 19: each count, before the lines, which are all 0 here
     ∷ refused (counted_table 0 1 0) 19
     ∷ refused (counted_table 9 1 0) 19

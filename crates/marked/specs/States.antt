@@ -1,9 +1,7 @@
 -- Sound states, and for each clause of soundness a state beside a sound one that breaks it alone. Assumes nothing.
-use Rattle.std.specs.Prelude.{List, [], ◌∷◌, ℕ, replicate}
+use Rattle.std.specs.Prelude.{List, [], ◌∷◌, ℕ, replicate, None}
 use Rattle.model.specs.declared.Phase.TheVariants.{Idle, Active, Running, Recharging}
 use Rattle.model.specs.declared.Mode.TheVariants.{Suspended, Ready, Waiting}
-use Rattle.model.specs.declared.Runs.TheVariants.{Nowhere}
-use Rattle.model.specs.declared.Owner.TheVariants.{Nobody}
 use Rattle.model.specs.declared.Server.{Server}
 use Rattle.model.specs.declared.Task.{Task}
 use Rattle.model.specs.declared.Resource.{Resource}
@@ -26,7 +24,7 @@ crowd = fresh_state (table_of 1 16 (replicate 16 (line 10 20 65535)))
 
 -- one task that holds all sixteen resources
 abbrev pub hoarder : Task
-hoarder = task Suspended Nowhere 65535 (0 ∷ 1 ∷ 2 ∷ 3 ∷ 4 ∷ 5 ∷ 6 ∷ 7 ∷ 8 ∷ 9 ∷ 10 ∷ 11 ∷ 12 ∷ 13 ∷ 14 ∷ 15 ∷ []) 0
+hoarder = task Suspended None 65535 (0 ∷ 1 ∷ 2 ∷ 3 ∷ 4 ∷ 5 ∷ 6 ∷ 7 ∷ 8 ∷ 9 ∷ 10 ∷ 11 ∷ 12 ∷ 13 ∷ 14 ∷ 15 ∷ []) 0
 
 abbrev pub hoard : Task → State
 hoard k = state_of 1 0 (server Idle 10 0 10 20 0 0 0 ∷ []) (k ∷ []) (replicate 16 (resource (by 0) []))
@@ -43,7 +41,7 @@ other_resource r x = with_resource r x desk
 
 -- task 2 waits for a resource that it holds itself
 abbrev pub self_wait : State
-self_wait = with_resource 2 (resource (by 2) (2 ∷ [])) (other_task 2 (task (Waiting 2) Nowhere 4 (2 ∷ []) 0))
+self_wait = with_resource 2 (resource (by 2) (2 ∷ [])) (other_task 2 (task (Waiting 2) None 4 (2 ∷ []) 0))
 
 -- tasks 2 and 3 hold 2 and 1, and each waits for the other's
 abbrev pub two_wait : State
@@ -55,14 +53,14 @@ two_wait =
     (with_task 0
     (task Ready (on 0) 3 (0 ∷ []) 3)
     (with_task 2
-    (task (Waiting 1) Nowhere 6 (2 ∷ []) 0)
-    (with_server 3 (server Active 10 20 10 20 0 0 0) (other_task 3 (task (Waiting 2) Nowhere 6 (1 ∷ []) 0))))))
+    (task (Waiting 1) None 6 (2 ∷ []) 0)
+    (with_server 3 (server Active 10 20 10 20 0 0 0) (other_task 3 (task (Waiting 2) None 6 (1 ∷ []) 0))))))
 
 -- task 2 waits for what task 3 holds, which sleeps; server 2 is this
 abbrev pub behind_sleeper : Server → State
 behind_sleeper s =
     with_server 2 s
-    (with_resource 2 (resource (by 3) (2 ∷ [])) (with_task 2 (task (Waiting 2) Nowhere 4 [] 0) (other_task 3 (task Suspended Nowhere 4 (2 ∷ []) 0))))
+    (with_resource 2 (resource (by 3) (2 ∷ [])) (with_task 2 (task (Waiting 2) None 4 [] 0) (other_task 3 (task Suspended None 4 (2 ∷ []) 0))))
 
 abbrev pub states : List Example
 states =
@@ -88,7 +86,7 @@ states =
     ∷ breaks (other_server 3 (server Recharging 0 0 0 20 0 0 0)) (someQuota ∷ [])
     ∷ breaks (other_server 3 (server Idle 10 0 21 20 0 0 0)) (quotaInPeriod ∷ [])
     ∷ breaks (other_server 3 (server Idle 10 0 10 1000001 0 0 0)) (periodInRange ∷ [])
-    ∷ breaks (other_task 3 (task Suspended Nowhere 8 [] 0)) (declaredPresent ∷ [])
+    ∷ breaks (other_task 3 (task Suspended None 8 [] 0)) (declaredPresent ∷ [])
     -- deadline and budget
     ∷ breaks (other_server 3 (server Idle 10 24 10 20 0 0 0)) (deadline ∷ [])
     ∷ breaks (other_server 3 (server Idle 11 0 10 20 0 0 0)) (budget ∷ [])
@@ -97,40 +95,40 @@ states =
     -- numbers in stacks and queues, owners and awaited resources. A queue longer than its places can't be broken alone: its sixteen entries
     -- would be all sixteen tasks, each waiting for the resource, its owner too, and the chain would close.
     ∷ breaks (hoard (pushed 0 hoarder)) (stackLength ∷ [])
-    ∷ breaks (other_task 3 (task Suspended Nowhere 4 (9 ∷ []) 0)) (stackEntries ∷ [])
+    ∷ breaks (other_task 3 (task Suspended None 4 (9 ∷ []) 0)) (stackEntries ∷ [])
     ∷ breaks (other_resource 1 (enqueued 9 (resource (by 0) (replicate 16 9)))) (queueLength ∷ queueEntries ∷ [])
     ∷ breaks (other_resource 1 (resource (by 0) (9 ∷ []))) (queueEntries ∷ [])
     ∷ breaks (other_resource 2 (resource (by 9) [])) (ownerHere ∷ [])
-    ∷ breaks (other_task 2 (task (Waiting 9) Nowhere 4 [] 0)) (awaitedPresent ∷ [])
+    ∷ breaks (other_task 2 (task (Waiting 9) None 4 [] 0)) (awaitedPresent ∷ [])
     -- owned and on no stack; on a stack twice; on a stack and not owned
     ∷ breaks (other_resource 2 (resource (by 3) [])) (stackAgreement ∷ [])
     ∷ breaks (other_task 0 (task Ready (on 0) 3 (0 ∷ 1 ∷ 1 ∷ []) 3)) (stackAgreement ∷ [])
-    ∷ breaks (other_task 3 (task Suspended Nowhere 4 (2 ∷ []) 0)) (stackAgreement ∷ [])
+    ∷ breaks (other_task 3 (task Suspended None 4 (2 ∷ []) 0)) (stackAgreement ∷ [])
     -- waiting and in no queue; in a queue twice; in a queue and not waiting
     ∷ breaks (other_resource 0 (resource (by 0) [])) (queueAgreement ∷ [])
     ∷ breaks (other_resource 0 (resource (by 0) (1 ∷ 1 ∷ []))) (queueAgreement ∷ [])
     ∷ breaks (other_resource 0 (resource (by 0) (1 ∷ 3 ∷ []))) (queueAgreement ∷ [])
     -- waiting for what nobody owns; holding and awaiting what is not declared; closed chains of one task and of two
-    ∷ breaks (with_resource 2 (resource Nobody (2 ∷ [])) (other_task 2 (task (Waiting 2) Nowhere 4 [] 0))) (queueOwned ∷ [])
+    ∷ breaks (with_resource 2 (resource None (2 ∷ [])) (other_task 2 (task (Waiting 2) None 4 [] 0))) (queueOwned ∷ [])
     ∷ breaks (other_task 0 (task Ready (on 0) 1 (0 ∷ 1 ∷ []) 3)) (heldDeclared ∷ [])
-    ∷ breaks (other_task 1 (task (Waiting 0) Nowhere 2 [] 0)) (awaitedDeclared ∷ [])
+    ∷ breaks (other_task 1 (task (Waiting 0) None 2 [] 0)) (awaitedDeclared ∷ [])
     ∷ breaks self_wait (chainEnds ∷ [])
     ∷ breaks two_wait (chainEnds ∷ [])
     -- Idle before a ready task; Active before a sleeping one, and before one that waits for it
-    ∷ breaks (other_task 3 (task Ready Nowhere 4 [] 0)) (idleSuspended ∷ [])
-    ∷ breaks (other_task 2 (task Suspended Nowhere 4 [] 0)) (idleSuspended ∷ [])
+    ∷ breaks (other_task 3 (task Ready None 4 [] 0)) (idleSuspended ∷ [])
+    ∷ breaks (other_task 2 (task Suspended None 4 [] 0)) (idleSuspended ∷ [])
     ∷ breaks (behind_sleeper (server Active 10 20 10 20 0 0 0)) (idleSuspended ∷ [])
     -- executing in a server that is not Running, in one that serves another task, in one past the counts; served, and executing nowhere
     ∷ breaks (other_task 2 (task Ready (on 2) 4 [] 0)) (executorServes ∷ [])
     ∷ breaks (other_task 2 (task Ready (on 1) 4 [] 0)) (executorServes ∷ [])
     ∷ breaks (other_task 2 (task Ready (on 9) 4 [] 0)) (executorServes ∷ [])
-    ∷ breaks (other_task 0 (task Ready Nowhere 3 (0 ∷ 1 ∷ []) 3)) (servedExecuted ∷ [])
+    ∷ breaks (other_task 0 (task Ready None 3 (0 ∷ 1 ∷ []) 3)) (servedExecuted ∷ [])
     -- accounts, at clock 3. None of own, lent and spin passes the clock without their sum.
     ∷ breaks (other_server 3 (server Idle 10 0 10 20 4 0 0)) (own_ticks ∷ serverTicks ∷ [])
     ∷ breaks (other_server 3 (server Idle 10 0 10 20 0 4 0)) (lent_ticks ∷ serverTicks ∷ [])
     ∷ breaks (other_server 3 (server Idle 10 0 10 20 0 0 4)) (spin_ticks ∷ serverTicks ∷ [])
     ∷ breaks (other_server 3 (server Idle 10 0 10 20 2 1 1)) (serverTicks ∷ [])
-    ∷ breaks (other_task 3 (task Suspended Nowhere 4 [] 4)) (executedTicks ∷ [])
+    ∷ breaks (other_task 3 (task Suspended None 4 [] 4)) (executedTicks ∷ [])
     -- two servers run on one processor
     ∷ breaks (counted 1 4 3 desk) (seats ∷ [])
     ∷ []

@@ -3,7 +3,7 @@ use Rattle.std.specs.Prelude.{List, [], ◌∷◌, ◌++◌, ℕ, ◌+◌, repli
 use Rattle.model.specs.declared.Event.TheVariants.{Elapse}
 use Rattle.trace.specs.declared.Record.{Record}
 use Rattle.trace.specs.declared.Record.TheVariants.{Counts, Reservation, Happening}
-use Rattle.trace.specs.declared.Read.TheVariants.{Got, End, Fault}
+use Rattle.trace.specs.Reading.{got, ended, fault}
 use Rattle.trace.specs.Order.{file_limit}
 use Rattle.marked.specs.Trace.{line, table_of, wake, suspend, dispatch, preempt, recharge, lock, unlock, counts_bytes, entry_bytes, event_bytes, trace_of}
 use Rattle.marked.specs.Example.{Example, prints, reads}
@@ -11,11 +11,11 @@ use Rattle.marked.specs.Marked.{table_closing}
 
 -- a file that is one record, and what is read from it; the next place is the file's end
 abbrev pub holds : List ℕ → ℕ → Record → Example
-holds file end r = reads file 0 (Got r (record { at = end }))
+holds file end r = reads file 0 (got r (record { at = end }))
 
 -- a file whose first record is faulty
 abbrev pub faulty : List ℕ → ℕ → Example
-faulty file n = reads file 0 (Fault n)
+faulty file n = reads file 0 (fault n)
 
 -- the table of one task: counts, then Q 2, P 20 and no resource (10 bytes, then 14)
 abbrev pub one_task : List ℕ
@@ -35,9 +35,9 @@ traces =
     ∷ holds (8 ∷ 0 ∷ 16 ∷ 0 ∷ 2 ∷ 0 ∷ 3 ∷ 0 ∷ 1 ∷ 0 ∷ []) 10 (Counts 2 3 1)
     ∷ holds (12 ∷ 0 ∷ 17 ∷ 0 ∷ 10 ∷ 0 ∷ 0 ∷ 0 ∷ 64 ∷ 66 ∷ 15 ∷ 0 ∷ 5 ∷ 1 ∷ []) 14 (Reservation (line 10 1000000 261))
     -- a record at a later place, and the file's end
-    ∷ reads (event_bytes (wake 1) ++ event_bytes (lock 0 1)) 6 (Got (Happening (lock 0 1)) (record { at = 14 }))
-    ∷ reads (event_bytes (wake 1)) 6 End
-    ∷ reads [] 0 End
+    ∷ reads (event_bytes (wake 1) ++ event_bytes (lock 0 1)) 6 (got (Happening (lock 0 1)) (record { at = 14 }))
+    ∷ reads (event_bytes (wake 1)) 6 ended
+    ∷ reads [] 0 ended
     -- 30: one byte; a length with nothing after it; a kind cut in two; a body cut short, also of an unknown kind
     ∷ faulty (4 ∷ []) 30
     ∷ faulty (4 ∷ 0 ∷ []) 30

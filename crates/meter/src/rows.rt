@@ -4,6 +4,8 @@ ghost use Rattle.model.specs.Said.{said};
 ghost use Rattle.model.specs.Meter.{metered};
 ghost use Rattle.meter.specs.Decided.{meter_said};
 
+use crate::answer::{decided, rows_written};
+use crate::row::row_of;
 use model::{Answer, Row, ServerNo, State};
 
 // Row s becomes server s's for each task, the others stay, and the answer says how many; a refusal leaves all as they came.
@@ -12,13 +14,10 @@ pub fn fill(st: State, rows: &mut [Row]) -> Answer
     ensures rows { rows.new ≡ (metered st rows.old).1 }
     ensures said { said result ≡ meter_said st (length rows.old) }
 {
-    let answer = crate::answer::decided(st, rows.len());
-    let n = crate::answer::rows_written(answer);
-    let mut s: u16 = 0;
-    while s < n {
-        let row = crate::row::row_of(st, ServerNo(s));
-        rows[s as usize] = row;
-        s += 1;
+    let answer = decided(st, rows.len());
+    let written = &mut rows[..rows_written(answer) as usize];
+    for (s, row) in written.iter_mut().enumerate() {
+        *row = row_of(st, ServerNo(s as u16));
     }
     answer
 }

@@ -1,5 +1,6 @@
 -- The laws of rule H: what `settled` leaves alone, which of its three steps decides, and what follows for every task and server, said of the state
 -- after. They lean on the three laws of `chosen` (model/proofs/Chosen.antt). Assumes nothing.
+use Rattle.std.specs.Prelude.{None}
 use mathlib.Core.Path.{◌≡◌, refl, sym, ap, ◌∙◌}
 use mathlib.Core.Bool.{true, false}
 use mathlib.Core.Logic.{⊎_elim}
@@ -10,11 +11,9 @@ use lib.ListN.{length}
 use borrow.Author.Tests.{eqb-true, lt-ltb, ltb-true, ltb-false}
 use Rattle.laws.proofs.Cases.{split, holds_fails, and_left, and_right}
 use Rattle.laws.proofs.Set.{set_at_lem, set_to_keeps}
-use Rattle.model.specs.declared.Runs.TheVariants.{Nowhere}
-use Rattle.model.specs.declared.Runs.{Runs}
+use Rattle.model.specs.State.{Runs, places, nobody, no_task, task_at, here, present, awaited, placed, executor_number, owner_of, next, served, running_at, running_for, executor_of, executing}
 use Rattle.model.specs.declared.Task.{Task}
 use Rattle.model.specs.declared.State.{State}
-use Rattle.model.specs.State.{places, nobody, no_task, task_at, here, present, awaited, placed, executor_number, owner_of, next, served, running_at, running_for, executor_of, executing}
 use Rattle.model.specs.RuleH.{with_runs, chosen, executor_by, runs_in, settled_task, settled}
 use Rattle.model.proofs.Chain.{here_below, same_served, served_here}
 use Rattle.model.proofs.Chosen.{chosen_best, chosen_serves, chosen_some}
@@ -170,7 +169,7 @@ module _ (old st : State) (acting : ℕ) where
         settled_for t _ ∙ rw settled_executor (by_serves st (executor_of old t) acting t l)
 
     -- a task that no Running server serves executes nowhere
-    pub settled_none : ((s : ℕ) → running_for (settled old acting st) t s ≡ false) → (task_at (settled old acting st) t).runs ≡ Nowhere
+    pub settled_none : ((s : ℕ) → running_for (settled old acting st) t s ≡ false) → (task_at (settled old acting st) t).runs ≡ None
     settled_none f =
         split
         (ltb (executor_by st (executor_of old t) acting t) places)

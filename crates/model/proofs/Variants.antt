@@ -1,4 +1,5 @@
 -- From a test on a phase, a mode or an owner to the variant that passes it. Assumes nothing.
+use Rattle.std.specs.Prelude.{None, Some}
 use mathlib.Core.Path.{◌≡◌, refl}
 use mathlib.Core.Bool.{true, false}
 use Prim.Native.Nat.{◌<◌}
@@ -8,9 +9,7 @@ use Rattle.model.specs.declared.Phase.{Phase}
 use Rattle.model.specs.declared.Phase.TheVariants.{Idle, Active, Running, Recharging}
 use Rattle.model.specs.declared.Mode.{Mode}
 use Rattle.model.specs.declared.Mode.TheVariants.{Suspended, Ready, Waiting}
-use Rattle.model.specs.declared.Owner.{Owner}
-use Rattle.model.specs.declared.Owner.TheVariants.{Nobody, By}
-use Rattle.model.specs.State.{places, nobody, idle, active, running, recharging, suspended, waiting, owned, owner_no}
+use Rattle.model.specs.State.{Owner, places, nobody, idle, active, running, recharging, suspended, waiting, owned, owner_no}
 
 pub running_is : (p : Phase) → running p ≡ true → p ≡ Running
 running_is Idle e = holds_fails e refl
@@ -47,9 +46,9 @@ ready_is Ready e w = refl
 ready_is (Waiting r) e w = holds_fails refl w
 
 pub unowned_no : (o : Owner) → owned o ≡ false → owner_no o ≡ nobody
-unowned_no Nobody e = refl
-unowned_no (By t) e = holds_fails refl e
+unowned_no None e = refl
+unowned_no (Some t) e = holds_fails refl e
 
 pub number_owned : (o : Owner) → owner_no o < places → owned o ≡ true
-number_owned Nobody l = absurd (omega arith)
-number_owned (By t) l = refl
+number_owned None l = absurd (omega arith)
+number_owned (Some t) l = refl

@@ -1,21 +1,19 @@
 -- What each event changes, before rule H: rules 7.1 to 7.10, and the accounts of rule 8.1. A new entry is a function of its number and of the state
 -- before, so that entries not in use stay as they are (rule 1.7). Assumes nothing.
-use Rattle.std.specs.Prelude.{Bool, not, ◌&&◌, ◌||◌, List, ℕ, ◌+◌, ◌-◌, eqb, get_or, set, if◌then◌else◌}
+use Rattle.std.specs.Prelude.{None, Some, Bool, not, ◌&&◌, ◌||◌, List, ℕ, ◌+◌, ◌-◌, eqb, get_or, set, if◌then◌else◌}
 use Rattle.laws.specs.Loops.{set_to}
 use Rattle.model.specs.declared.TaskNo.{TaskNo}
 use Rattle.model.specs.declared.Phase.{Phase}
 use Rattle.model.specs.declared.Phase.TheVariants.{Idle, Active, Running, Recharging}
 use Rattle.model.specs.declared.Mode.{Mode}
 use Rattle.model.specs.declared.Mode.TheVariants.{Suspended, Ready, Waiting}
-use Rattle.model.specs.declared.Owner.{Owner}
-use Rattle.model.specs.declared.Owner.TheVariants.{Nobody, By}
+use Rattle.model.specs.State.{Owner, TaskNumber, ServerNumber, ResourceNumber, places, nobody, server_at, task_at, resource_at, here, idle, active, running, suspended, owned, served, running_at, executor_of, executing, executes}
 use Rattle.model.specs.declared.Server.{Server}
 use Rattle.model.specs.declared.Task.{Task}
 use Rattle.model.specs.declared.Resource.{Resource}
 use Rattle.model.specs.declared.State.{State}
 use Rattle.model.specs.declared.Event.{Event}
 use Rattle.model.specs.declared.Event.TheVariants.{Wake, Suspend, Dispatch, Preempt, Elapse, Recharge, Lock, Unlock}
-use Rattle.model.specs.State.{TaskNumber, ServerNumber, ResourceNumber, places, nobody, server_at, task_at, resource_at, here, idle, active, running, suspended, owned, served, running_at, executor_of, executing, executes}
 use Rattle.model.specs.RuleH.{with_tasks}
 
 abbrev pub with_servers : List Server → State → State
@@ -161,7 +159,7 @@ first_waiter x = (get_or x.queue 0 (record { 0 = 0 })).0
 -- rule 7.7, lock of what nobody owns
 unfoldable pub granted : State → TaskNumber → ResourceNumber → State
 granted st t r =
-    with_task t (pushed r (task_at st t)) (with_resource r (with_owner (By (record { 0 = t })) (resource_at st r)) st)
+    with_task t (pushed r (task_at st t)) (with_resource r (with_owner (Some (record { 0 = t })) (resource_at st r)) st)
 
 -- rule 7.8, lock of what somebody owns, in two stages: t waits, last in the queue,
 unfoldable pub joined : State → TaskNumber → ResourceNumber → State
@@ -177,7 +175,7 @@ locked st t r = if owned (resource_at st r).owner then rested_end (joined st t r
 
 -- rule 7.9, unlock of what nobody waits for
 unfoldable pub freed : State → TaskNumber → ResourceNumber → State
-freed st t r = with_task t (popped (task_at st t)) (with_resource r (with_owner Nobody (resource_at st r)) st)
+freed st t r = with_task t (popped (task_at st t)) (with_resource r (with_owner None (resource_at st r)) st)
 
 -- rule 7.10, unlock of what has a queue: the heir is its first. Whole chains go with it, since links lead to owners (rule 3.1).
 unfoldable pub passed : State → TaskNumber → ResourceNumber → TaskNumber → State
@@ -186,7 +184,7 @@ passed st t r heir =
     (pushed r (with_mode Ready (task_at st heir)))
     (with_task t
     (popped (task_at st t))
-    (with_resource r (with_owner (By (record { 0 = heir })) (dequeued (resource_at st r))) st))
+    (with_resource r (with_owner (Some (record { 0 = heir })) (dequeued (resource_at st r))) st))
 
 -- rules 7.9, 7.10
 unfoldable pub unlocked : State → TaskNumber → ResourceNumber → State

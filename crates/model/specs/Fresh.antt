@@ -1,20 +1,17 @@
 -- The state from which a table starts, and its refusals 19 to 21: rules 5.1 to 5.5. Assumes nothing.
-use Rattle.std.specs.Prelude.{not, ℕ, ltb, get_or, replicate, if◌then◌else◌}
+use Rattle.std.specs.Prelude.{not, ℕ, ltb, get_or, replicate, if◌then◌else◌, None}
 use Rattle.std.proofs.Math.Option.{Option, none, some}
 use Rattle.laws.specs.Tests.{◌when◌or◌, accepted, first_of, ◌or_else◌}
 use Rattle.laws.specs.Loops.{set_to, fold_to}
 use Rattle.model.specs.declared.Phase.TheVariants.{Idle}
 use Rattle.model.specs.declared.Mode.TheVariants.{Suspended}
-use Rattle.model.specs.declared.Runs.TheVariants.{Nowhere}
-use Rattle.model.specs.declared.Owner.TheVariants.{Nobody}
 use Rattle.model.specs.declared.Server.{Server}
 use Rattle.model.specs.declared.Task.{Task}
 use Rattle.model.specs.declared.Resource.{Resource}
 use Rattle.model.specs.declared.State.{State}
 use Rattle.model.specs.declared.Entry.{Entry}
 use Rattle.model.specs.declared.Table.{Table}
-use Rattle.model.specs.declared.FreshAnswer.TheVariants.{Made, Refused}
-use Rattle.model.specs.declared.FreshOutcome.{FreshOutcome}
+use Rattle.model.specs.Verdicts.{Verdict, verdict}
 use Rattle.model.specs.State.{TaskNumber, ServerNumber, places, no_server}
 use Rattle.model.specs.Sound.{counts_fit, quota_fits, declared_fits}
 
@@ -47,17 +44,17 @@ abbrev pub blank_server : Server
 blank_server = no_server
 
 abbrev pub blank_task : Task
-blank_task = record { mode = Suspended; runs = Nowhere; declared = 0; depth = 0; executed = 0; held = replicate places 0 }
+blank_task = record { mode = Suspended; runs = None; declared = 0; depth = 0; executed = 0; held = replicate places 0 }
 
 abbrev pub blank_resource : Resource
-blank_resource = record { owner = Nobody; waiting = 0; queue = replicate places (record { 0 = 0 }) }
+blank_resource = record { owner = None; waiting = 0; queue = replicate places (record { 0 = 0 }) }
 
 -- rule 5.2: an Idle server with a full budget, a suspended task that holds nothing; and the whole state
 abbrev pub fresh_server : Entry → Server
 fresh_server e = record { phase = Idle; budget = e.quota; deadline = 0; quota = e.quota; period = e.period; own = 0; lent = 0; spin = 0 }
 
 abbrev pub fresh_task : Entry → Task
-fresh_task e = record { mode = Suspended; runs = Nowhere; declared = e.declared; depth = 0; executed = 0; held = replicate places 0 }
+fresh_task e = record { mode = Suspended; runs = None; declared = e.declared; depth = 0; executed = 0; held = replicate places 0 }
 
 unfoldable pub fresh_server_at : Table → ServerNumber → Server
 fresh_server_at tb s = if ltb s tb.tasks then fresh_server (entry_at tb s) else blank_server
@@ -88,10 +85,14 @@ unusable = record {
   resource = replicate places blank_resource;
 }
 
--- rules 5.2, 5.4, 5.5: the state that the table starts from, or the refusal
-abbrev pub fresh_by : Option ℕ → Table → FreshOutcome
-fresh_by none tb = record { answer = Made; state = fresh_state tb }
-fresh_by (some n) tb = record { answer = Refused n; state = unusable }
+-- rules 5.2, 5.4, 5.5: the state that the table starts from, or the refusal's number and a state of no use
+pub record Start : Type 0 where
+  pub answer : Verdict
+  pub state : State
 
-unfoldable pub fresh_of : Table → FreshOutcome
+abbrev pub fresh_by : Option ℕ → Table → Start
+fresh_by none tb = record { answer = verdict none; state = fresh_state tb }
+fresh_by (some n) tb = record { answer = verdict (some n); state = unusable }
+
+unfoldable pub fresh_of : Table → Start
 fresh_of tb = fresh_by (fresh_refusal tb) tb

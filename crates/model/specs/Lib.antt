@@ -10,3 +10,4 @@ pub mod Meter
 pub mod Groups
 pub mod Shape
 pub mod Verdicts
+pub mod Refusals

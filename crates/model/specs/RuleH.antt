@@ -1,11 +1,9 @@
 -- Who executes after an event: rule H, in the three steps of rules 6.1 to 6.3. Assumes nothing.
-use Rattle.std.specs.Prelude.{List, ℕ, ltb, if◌then◌else◌}
+use Rattle.std.specs.Prelude.{None, Some, List, ℕ, ltb, if◌then◌else◌}
 use Rattle.laws.specs.Loops.{set_to, best_to}
-use Rattle.model.specs.declared.Runs.{Runs}
-use Rattle.model.specs.declared.Runs.TheVariants.{Nowhere, In}
+use Rattle.model.specs.State.{Runs, TaskNumber, ServerNumber, places, nobody, server_at, task_at, here, running_for, executor_of}
 use Rattle.model.specs.declared.Task.{Task}
 use Rattle.model.specs.declared.State.{State}
-use Rattle.model.specs.State.{TaskNumber, ServerNumber, places, nobody, server_at, task_at, here, running_for, executor_of}
 
 unfoldable pub budget_at : State → ServerNumber → ℕ
 budget_at st s = (server_at st s).budget
@@ -20,7 +18,7 @@ executor_by st before acting t =
     if running_for st t before then before else if running_for st t acting then acting else chosen st t
 
 abbrev pub runs_in : ServerNumber → Runs
-runs_in s = if ltb s places then In (record { 0 = s }) else Nowhere
+runs_in s = if ltb s places then Some (record { 0 = s }) else None
 
 abbrev pub with_runs : Runs → Task → Task
 with_runs x k = record { mode = k.mode; runs = x; declared = k.declared; depth = k.depth; executed = k.executed; held = k.held }

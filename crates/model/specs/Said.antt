@@ -1,10 +1,10 @@
 -- What the answers say, as a word, a number, and the number that follows where one does: the words of rules 7.1 to 7.10 and 10.1. Assumes nothing.
 use Rattle.std.specs.Prelude.{Bool, true, false, ℕ}
+use Rattle.std.specs.Prelude as std
 use Rattle.std.proofs.Math.Option.{Option, none, some}
 use Rattle.model.specs.declared.Answer.{Answer}
 use Rattle.model.specs.declared.Answer.TheVariants.{Ok, Executes, Spins, Granted, Waits, Passed, Freed, Refused, RefusedWaiting}
-use Rattle.model.specs.declared.FreshAnswer.{FreshAnswer}
-use Rattle.model.specs.declared.FreshAnswer.TheVariants as fresh
+use Rattle.model.specs.Verdicts.{Verdict}
 
 -- rule 14.1: the words that a listing prints
 pub data Word : Type 0 where
@@ -38,6 +38,6 @@ is_refused (Refused n) = true
 is_refused (RefusedWaiting r) = true
 
 -- fresh has no word of its own where it makes a state: it is told as `ok` and 0
-abbrev pub said_fresh : FreshAnswer → Saying
-said_fresh fresh.Made = (ok, 0, none)
-said_fresh (fresh.Refused n) = (refused, n, none)
+abbrev pub said_fresh : Verdict → Saying
+said_fresh (std.Ok _) = (ok, 0, none)
+said_fresh (std.Err n) = (refused, n, none)

@@ -1,14 +1,12 @@
 -- The state's entries, which numbers are in use, the chain of waiting, what a server serves and who executes.
 -- Rules 1.2, 1.3, 1.6, 1.7, 2.1 to 2.5 and 3.1 to 3.4. Assumes nothing.
-use Rattle.std.specs.Prelude.{Bool, true, false, ◌&&◌, [], ℕ, zero, suc, ◌/◌, ◌%◌, ◌^◌, ltb, eqb, get_or, if◌then◌else◌}
+use Rattle.std.specs.Prelude.{Bool, true, false, ◌&&◌, [], ℕ, zero, suc, ◌/◌, ◌%◌, ◌^◌, ltb, eqb, get_or, if◌then◌else◌, Option, Some, None, is_some}
 use Rattle.model.specs.declared.Phase.{Phase}
 use Rattle.model.specs.declared.Phase.TheVariants.{Idle, Active, Running, Recharging}
 use Rattle.model.specs.declared.Mode.{Mode}
 use Rattle.model.specs.declared.Mode.TheVariants.{Suspended, Ready, Waiting}
-use Rattle.model.specs.declared.Runs.{Runs}
-use Rattle.model.specs.declared.Runs.TheVariants.{Nowhere, In}
-use Rattle.model.specs.declared.Owner.{Owner}
-use Rattle.model.specs.declared.Owner.TheVariants.{Nobody, By}
+use Rattle.model.specs.declared.TaskNo.{TaskNo}
+use Rattle.model.specs.declared.ServerNo.{ServerNo}
 use Rattle.model.specs.declared.Server.{Server}
 use Rattle.model.specs.declared.Task.{Task}
 use Rattle.model.specs.declared.Resource.{Resource}
@@ -33,15 +31,23 @@ places = 16
 abbrev pub nobody : ℕ
 nobody = 16
 
+-- rule 2.4: a resource has an owner or none
+abbrev pub Owner : Type 0
+Owner = Option TaskNo
+
+-- rule 2.5: the server in which a task executes, if there is one
+abbrev pub Runs : Type 0
+Runs = Option ServerNo
+
 -- rules 2.1 to 2.5, the entries of a state; and what an array is read as past its end
 abbrev pub no_server : Server
 no_server = record { phase = Idle; budget = 0; deadline = 0; quota = 0; period = 0; own = 0; lent = 0; spin = 0 }
 
 abbrev pub no_task : Task
-no_task = record { mode = Suspended; runs = Nowhere; declared = 0; depth = 0; executed = 0; held = [] }
+no_task = record { mode = Suspended; runs = None; declared = 0; depth = 0; executed = 0; held = [] }
 
 abbrev pub no_resource : Resource
-no_resource = record { owner = Nobody; waiting = 0; queue = [] }
+no_resource = record { owner = None; waiting = 0; queue = [] }
 
 abbrev pub server_at : State → ServerNumber → Server
 server_at st s = get_or st.server s no_server
@@ -112,23 +118,21 @@ awaited Suspended = nobody
 awaited Ready = nobody
 awaited (Waiting r) = r
 
--- rule 2.4: a resource has an owner or none
+-- rule 2.4: whether there is an owner, and its number, nobody's where there is none
 abbrev pub owned : Owner → Bool
-owned Nobody = false
-owned (By t) = true
+owned o = is_some o
 
 abbrev pub owner_no : Owner → TaskNumber
-owner_no Nobody = nobody
-owner_no (By t) = t.0
+owner_no None = nobody
+owner_no (Some t) = t.0
 
--- rule 2.5: the server in which a task executes, if there is one
+-- rule 2.5: whether a task executes, and the number of the server, nobody's where there is none
 abbrev pub placed : Runs → Bool
-placed Nowhere = false
-placed (In s) = true
+placed x = is_some x
 
 abbrev pub executor_number : Runs → ServerNumber
-executor_number Nowhere = nobody
-executor_number (In s) = s.0
+executor_number None = nobody
+executor_number (Some s) = s.0
 
 -- rule 3.1: the owner of resource r if both are in use, else nobody
 unfoldable pub owner_of : State → ResourceNumber → TaskNumber

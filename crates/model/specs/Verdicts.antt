@@ -1,18 +1,14 @@
 -- What tests say: that none refuses, or the number of the first that does. Assumes nothing.
-use Rattle.std.specs.Prelude.{Bool, ℕ, if◌then◌else◌}
+use Rattle.std.specs.Prelude.{Bool, ℕ, ⊤, Result, Ok, Err, if◌then◌else◌}
 use Rattle.std.proofs.Math.Option.{Option, none, some}
-use Rattle.model.specs.declared.Verdict.{Verdict}
-use Rattle.model.specs.declared.Verdict.TheVariants.{Accepted, Refused}
+
+abbrev pub Verdict : Type 0
+Verdict = Result ⊤ ℕ
 
 abbrev pub verdict : Option ℕ → Verdict
-verdict none = Accepted
-verdict (some n) = Refused n
-
--- the first of two
-abbrev pub first_refused : Verdict → Verdict → Verdict
-first_refused Accepted later = later
-first_refused (Refused n) later = Refused n
+verdict none = Ok tt
+verdict (some n) = Err n
 
 -- by one test
-unfoldable pub refused_if : ℕ → Bool → Verdict
-refused_if n b = if b then Refused n else Accepted
+abbrev pub refused_if : {E : Type 0} → E → Bool → Result ⊤ E
+refused_if e b = if b then Err e else Ok tt

@@ -1,11 +1,10 @@
-// Entries that are not in use (rule 5.3), and the state of no use that a refused fresh or a refused read gives back beside its answer (rule 5.5).
-// Assumes nothing.
+// Entries that are not in use (rule 5.3), and the state of no use that a refused fresh gives back beside its answer (rule 5.5). Assumes nothing.
 ghost use Rattle.std.specs.Prelude.{◌≡◌};
 ghost use Rattle.model.specs.Fresh.{blank_server, blank_task, blank_resource, unusable};
 
-use crate::{Mode, Owner, Phase, Resource, Runs, Server, State, Task, TaskNo};
+use crate::{Mode, Phase, Resource, Server, State, Task, TaskNo};
 
-fn blank_server() -> Server
+pub fn blank_server() -> Server
     ensures { result ≡ blank_server }
 {
     Server {
@@ -20,29 +19,26 @@ fn blank_server() -> Server
     }
 }
 
-fn blank_task() -> Task
+pub fn blank_task() -> Task
     ensures { result ≡ blank_task }
 {
-    let held = [0u16; 16];
     Task {
         mode: Mode::Suspended,
-        runs: Runs::Nowhere,
+        runs: None,
         declared: 0,
         depth: 0,
         executed: 0,
-        held: held,
+        held: [0; 16],
     }
 }
 
 fn blank_resource() -> Resource
     ensures { result ≡ blank_resource }
 {
-    let none = TaskNo(0);
-    let queue = [none; 16];
     Resource {
-        owner: Owner::Nobody,
+        owner: None,
         waiting: 0,
-        queue: queue,
+        queue: [TaskNo(0); 16],
     }
 }
 
@@ -50,19 +46,13 @@ fn blank_resource() -> Resource
 pub fn unusable_state() -> State
     ensures { result ≡ unusable }
 {
-    let server = blank_server();
-    let task = blank_task();
-    let resource = blank_resource();
-    let servers = [server; 16];
-    let tasks = [task; 16];
-    let resources = [resource; 16];
     State {
         processors: 0,
         tasks: 0,
         resources: 0,
         clock: 0,
-        server: servers,
-        task: tasks,
-        resource: resources,
+        server: [blank_server(); 16],
+        task: [blank_task(); 16],
+        resource: [blank_resource(); 16],
     }
 }

@@ -1,70 +1,50 @@
 // An entry made anew with one thing changed, and the outcome of a refusal, as specs defines them. Assumes nothing.
 ghost use Rattle.std.specs.Prelude.{◌≡◌};
+ghost use Rattle.model.specs.Refusals.{refusal_no};
 ghost use Rattle.model.specs.RuleH.{with_runs};
 ghost use Rattle.model.specs.Events.{with_phase, with_mode, with_owner};
 
-use crate::{Answer, Mode, Outcome, Owner, Phase, Resource, Runs, Server, State, Task};
+use crate::refusals::Refusal;
+use crate::{Answer, Mode, Outcome, Phase, Resource, Server, ServerNo, State, Task, TaskNo};
 
-pub fn with_phase(server: Server, phase: Phase) -> Server
-    ensures { result ≡ with_phase phase server }
-{
-    Server {
-        phase,
-        budget: server.budget,
-        deadline: server.deadline,
-        quota: server.quota,
-        period: server.period,
-        own: server.own,
-        lent: server.lent,
-        spin: server.spin,
+impl Server {
+    pub fn with_phase(self, phase: Phase) -> Server
+        ensures { result ≡ with_phase phase self }
+    {
+        Server { phase, ..self }
     }
 }
 
-pub fn with_mode(task: Task, mode: Mode) -> Task
-    ensures { result ≡ with_mode mode task }
-{
-    let runs = task.runs;
-    with_mode_and_runs(task, mode, runs)
-}
+impl Task {
+    pub fn with_mode(self, mode: Mode) -> Task
+        ensures { result ≡ with_mode mode self }
+    {
+        Task { mode, ..self }
+    }
 
-pub fn with_runs(task: Task, runs: Runs) -> Task
-    ensures { result ≡ with_runs runs task }
-{
-    let mode = task.mode;
-    with_mode_and_runs(task, mode, runs)
-}
-
-fn with_mode_and_runs(task: Task, mode: Mode, runs: Runs) -> Task
-    ensures { result ≡ with_runs runs (with_mode mode task) }
-{
-    let held = task.held;
-    Task {
-        mode,
-        runs,
-        declared: task.declared,
-        depth: task.depth,
-        executed: task.executed,
-        held,
+    pub fn with_runs(self, runs: Option<ServerNo>) -> Task
+        ensures { result ≡ with_runs runs self }
+    {
+        Task { runs, ..self }
     }
 }
 
-pub fn with_owner(resource: Resource, owner: Owner) -> Resource
-    ensures { result ≡ with_owner owner resource }
-{
-    let queue = resource.queue;
-    Resource {
-        owner,
-        waiting: resource.waiting,
-        queue,
+impl Resource {
+    pub fn with_owner(self, owner: Option<TaskNo>) -> Resource
+        ensures { result ≡ with_owner owner self }
+    {
+        Resource { owner, ..self }
     }
 }
 
-// The number and the given state, unchanged.
-pub fn refused(st: State, number: u16) -> Outcome
-    ensures { result ≡ record { answer = Answer.Refused number; state = st } }
-{
-    Outcome {
-        answer: Answer::Refused(number),
-        state: st,
+impl Outcome {
+    // The number and the given state, unchanged.
+    pub fn refused(state: State, refusal: Refusal) -> Outcome
+        ensures { result ≡ record { answer = Answer.Refused (refusal_no refusal); state = state } }
+    {
+        Outcome {
+            answer: Answer::Refused(u16::from(refusal)),
+            state,
+        }
     }
 }

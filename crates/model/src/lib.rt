@@ -1,18 +1,19 @@
 // The types of the machine: numbers, state, events, answers and tables (rules 1 and 2). A state goes in by value and comes back by value.
 // Widths are chosen for size (ticks and accounts 32 bits, numbers the 16 bits of a trace's operands); to the specs each is a number.
-// There are sixteen places for tasks, servers and resources; entries from the count on are not in use (rule 1.7). Assumes nothing.
+// There are sixteen places for tasks, servers and resources; entries from the count on are not in use (rule 1.7). Arrays stand beside counts since memory is
+// fixed, with no heap, and since a place that is given up is 0 (rule 2.6): the whole array is what a state is, and what its bytes show. Assumes nothing.
 #![tactic(auto)]
 
 // The number of a task, the paper's tau (rule 1.2).
-#[derive(Clone, Copy)]
+#[derive(Clone, Copy, PartialEq, Eq)]
 pub struct TaskNo(pub u16);
 
 // The number of a server, the paper's S (rule 1.2).
-#[derive(Clone, Copy)]
+#[derive(Clone, Copy, PartialEq, Eq)]
 pub struct ServerNo(pub u16);
 
 // Rule 2.1.
-#[derive(Clone, Copy)]
+#[derive(Clone, Copy, PartialEq, Eq)]
 pub enum Phase {
     Idle,
     Active,
@@ -34,7 +35,7 @@ pub struct Server {
 }
 
 // Rule 2.2.
-#[derive(Clone, Copy)]
+#[derive(Clone, Copy, PartialEq, Eq)]
 pub enum Mode {
     Suspended,
     Ready,
@@ -42,34 +43,22 @@ pub enum Mode {
     Waiting(u16),
 }
 
-// Where a task executes (rule 2.5).
-#[derive(Clone, Copy)]
-pub enum Runs {
-    Nowhere,
-    In(ServerNo),
-}
-
-// Rules 1.6, 2.3: `declared` has bit r for resource r; the resources it holds are the first `depth` places of `held`, the latest last.
+// Rules 1.6, 2.3, 2.5: `declared` has bit r for resource r; the resources it holds are the first `depth` places of `held`, the latest last; it runs in a server or
+// in none.
 #[derive(Clone, Copy)]
 pub struct Task {
     pub mode: Mode,
-    pub runs: Runs,
+    pub runs: Option<ServerNo>,
     pub declared: u16,
     pub depth: u16,
     pub executed: u32,
     pub held: [u16; 16],
 }
 
-#[derive(Clone, Copy)]
-pub enum Owner {
-    Nobody,
-    By(TaskNo),
-}
-
 // Rule 2.4: the tasks that wait for it are the first `waiting` places of `queue`, the first come first.
 #[derive(Clone, Copy)]
 pub struct Resource {
-    pub owner: Owner,
+    pub owner: Option<TaskNo>,
     pub waiting: u16,
     pub queue: [TaskNo; 16],
 }
@@ -107,23 +96,17 @@ pub enum Answer {
     Waits(TaskNo),
     Passed(TaskNo),
     Freed(u16),
+    // the refusal's number, which is what rules and callers are told: `model.Step.refusing`, `model.Said.said` and the theorems on 1, 8 and 62 speak of it
     Refused(u16),
     // refused 62: the task waits for this resource
     RefusedWaiting(u16),
 }
 
-// What a step gives back. The answer stands beside the state, since an enum holds no array.
+// What a step gives back: a refusal hands the given state back too (rule 10.1), so that the answer stands beside the state.
 #[derive(Clone, Copy)]
 pub struct Outcome {
     pub answer: Answer,
     pub state: State,
-}
-
-// What tests say: that none refuses, or the number of the first that does.
-#[derive(Clone, Copy)]
-pub enum Verdict {
-    Accepted,
-    Refused(u16),
 }
 
 // A task's line of the table from which a state starts (rule 5.1).
@@ -142,15 +125,10 @@ pub struct Table {
     pub entry: [Entry; 16],
 }
 
-#[derive(Clone, Copy)]
-pub enum FreshAnswer {
-    Made,
-    Refused(u16),
-}
-
+// A refused table gives a state of no use beside the refusal (rule 5.5), so that the two stand side by side.
 #[derive(Clone, Copy)]
 pub struct FreshOutcome {
-    pub answer: FreshAnswer,
+    pub answer: Result<(), Refusal>,
     pub state: State,
 }
 
@@ -163,6 +141,8 @@ pub struct Row {
     pub lent: u32,
     pub spin: u32,
 }
+
+pub use refusals::Refusal;
 
 // A number that is no task's, no server's and no resource's.
 pub const NOBODY: u16 = 16;
@@ -177,4 +157,5 @@ pub mod blank;
 pub mod builders;
 pub mod entries;
 pub mod limits;
+pub mod refusals;
 pub mod verdicts;

@@ -1,24 +1,10 @@
-// Verdicts made of tests, as specs/Verdicts.antt defines them. Assumes nothing.
+// What a test says: that it does not refuse, or what refuses, as specs/Verdicts.antt defines it. Assumes nothing.
 ghost use Rattle.std.specs.Prelude.{◌≡◌};
-ghost use Rattle.model.specs.Verdicts.{first_refused, refused_if};
+ghost use Rattle.model.specs.Verdicts.{refused_if};
 
-use crate::Verdict;
-
-// The first of two refusals.
-pub fn or_else(earlier: Verdict, later: Verdict) -> Verdict
-    ensures { result ≡ first_refused earlier later }
+// By one test. What refuses is a refusal or, for a caller that has no more, its number.
+pub fn refused_if<E: Drop>(refusal: E, refuses: bool) -> Result<(), E>
+    ensures { result ≡ refused_if refusal refuses }
 {
-    match earlier {
-        Verdict::Accepted => later,
-        Verdict::Refused(n) => Verdict::Refused(n),
-    }
-}
-
-pub fn refused_if(number: u16, refuses: bool) -> Verdict
-    ensures { result ≡ refused_if number refuses }
-{
-    if refuses {
-        return Verdict::Refused(number);
-    }
-    Verdict::Accepted
+    if refuses { Err(refusal) } else { Ok(()) }
 }

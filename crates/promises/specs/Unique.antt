@@ -1,6 +1,7 @@
 -- Uniqueness, of each entry point: what its contract leaves open is nothing. The statements are about the contracts themselves, as the kit reads them
 -- (`Post`): of the arguments, the answer, and the arguments at exit. A function of this table has no `requires`. Assumes nothing.
-use Rattle.std.specs.Prelude.{◌≡◌, List}
+use Rattle.std.specs.Prelude.{◌≡◌, List, ℕ}
+use Rattle.std.proofs.Common.{Fits, w64}
 use Rattle.model.specs.declared.State.{State}
 use Rattle.model.specs.declared.Row.{Row}
 use Rattle.step.proofs.step.step.Reads as Step
@@ -33,9 +34,7 @@ use Rattle.trace.proofs.kinds.body_length.Reads as BodyLength
 use Rattle.trace.proofs.kinds.is_event.Reads as IsEvent
 use Rattle.trace.proofs.kinds.event_of.Reads as EventOf
 use Rattle.listing.proofs.whole.replay.Reads as Replay
-use Rattle.listing.proofs.buffers.file_buffer.Reads as FileBuffer
-use Rattle.listing.proofs.buffers.text_buffer.Reads as TextBuffer
-use Rattle.listing.proofs.buffers.short_text_buffer.Reads as ShortTextBuffer
+use Rattle.listing.proofs.buffers.buffer.Reads as Buffer
 use Rattle.image.proofs.reading.read.Reads as ReadImage
 use Rattle.image.proofs.writing.write.Reads as WriteImage
 use Rattle.vesztamor.proofs.layouts.vesztamor_layout.Reads as ExportLayout
@@ -47,29 +46,27 @@ use Rattle.vesztamor.proofs.bounds.vesztamor_bound.Reads as ExportBound
 use Rattle.vesztamor.proofs.replaying.vesztamor_replay.Reads as ExportReplay
 use Rattle.vesztamor.proofs.metering.vesztamor_meter.Reads as ExportMeter
 use Rattle.model.proofs.blank.unusable_state.Reads as UnusableState
-use Rattle.model.proofs.builders.with_phase.Reads as WithPhase
-use Rattle.model.proofs.builders.with_mode.Reads as WithMode
-use Rattle.model.proofs.builders.with_runs.Reads as WithRuns
-use Rattle.model.proofs.builders.with_owner.Reads as WithOwner
-use Rattle.model.proofs.builders.refused.Reads as Refused
+use Rattle.model.proofs.refusals.U16FromRefusal.from.Reads as RefusalNumber
+use Rattle.model.proofs.limits.no_entry.Reads as NoEntry
+use Rattle.model.proofs.blank.blank_server.Reads as BlankServer
+use Rattle.model.proofs.blank.blank_task.Reads as BlankTask
+use Rattle.model.proofs.Server.with_phase.Reads as WithPhase
+use Rattle.model.proofs.Task.with_mode.Reads as WithMode
+use Rattle.model.proofs.Task.with_runs.Reads as WithRuns
+use Rattle.model.proofs.Resource.with_owner.Reads as WithOwner
+use Rattle.model.proofs.Outcome.refused.Reads as Refused
 use Rattle.model.proofs.entries.executor_in.Reads as ExecutorIn
 use Rattle.model.proofs.entries.in_use.Reads as InUse
 use Rattle.model.proofs.entries.in_set.Reads as InSet
-use Rattle.model.proofs.entries.is_idle.Reads as IsIdle
-use Rattle.model.proofs.entries.is_active.Reads as IsActive
-use Rattle.model.proofs.entries.is_running.Reads as IsRunning
-use Rattle.model.proofs.entries.is_recharging.Reads as IsRecharging
-use Rattle.model.proofs.entries.is_suspended.Reads as IsSuspended
-use Rattle.model.proofs.entries.awaited_no.Reads as AwaitedNo
-use Rattle.model.proofs.entries.is_owned.Reads as IsOwned
+use Rattle.model.proofs.Phase.is_idle.Reads as IsIdle
+use Rattle.model.proofs.Phase.is_active.Reads as IsActive
+use Rattle.model.proofs.Phase.is_running.Reads as IsRunning
+use Rattle.model.proofs.Phase.is_recharging.Reads as IsRecharging
+use Rattle.model.proofs.Mode.is_suspended.Reads as IsSuspended
+use Rattle.model.proofs.Mode.awaited_no.Reads as AwaitedNo
 use Rattle.model.proofs.entries.owner_no.Reads as OwnerNo
-use Rattle.model.proofs.entries.is_placed.Reads as IsPlaced
 use Rattle.model.proofs.limits.counts_fit.Reads as CountsFit
 use Rattle.model.proofs.limits.quota_fits.Reads as QuotaFits
-use Rattle.model.proofs.entries.both.Reads as Both
-use Rattle.model.proofs.entries.either.Reads as Either
-use Rattle.model.proofs.entries.one_if.Reads as OneIf
-use Rattle.model.proofs.verdicts.or_else.Reads as OrElse
 use Rattle.model.proofs.verdicts.refused_if.Reads as RefusedIf
 
 -- Any two functions from the inputs to the answer and to the arguments at exit that meet the contract agree on every input: in the answer, which
@@ -86,7 +83,7 @@ UniqueLent {L} {A} {R} {X} {M} Post memory =
 abbrev pub Unique : {L : Type 0} {A R X : L → Type 0} (Post : (κ : L) → A κ → R κ → X κ → Type 0) → Type 0
 Unique Post = UniqueLent Post (λ κ x. tt {0})
 
-pub record EachUnique : Type 0 where
+pub record EachUnique : Type 2 where
   -- The layer: one step, the soundness test, the fresh state, what a server is doing, the end of a chain.
   pub step : Unique Step.Post
   pub is_sound : Unique IsSound.Post
@@ -123,9 +120,7 @@ pub record EachUnique : Type 0 where
   pub is_event_lem : Unique IsEvent.Post
   pub event_of_lem : Unique EventOf.Post
   pub replay : UniqueLent Replay.Post (λ κ x. x.1.0.now)
-  pub file_buffer : Unique FileBuffer.Post
-  pub text_buffer : Unique TextBuffer.Post
-  pub short_text_buffer : Unique ShortTextBuffer.Post
+  pub buffer : (n : ℕ) (small : Fits w64 n) → Unique (Buffer.Post n small)
   -- A state in lent bytes.
   pub read_image : Unique ReadImage.Post
   pub write_image : UniqueLent WriteImage.Post (λ κ x. x.1.0.now)
@@ -138,8 +133,12 @@ pub record EachUnique : Type 0 where
   pub export_bound : UniqueLent ExportBound.Post (λ κ x. x.1.1.1.0.now)
   pub export_replay : UniqueLent ExportReplay.Post (λ κ x. x.1.0.now)
   pub export_meter : UniqueLent ExportMeter.Post (λ κ x. x.1.0.now)
-  -- The model's own entries, tests and numbers, and the state of no use.
+  -- The model's own entries, tests and numbers, entries that are not in use, and the state of no use.
   pub unusable_state : Unique UnusableState.Post
+  pub refusal_number : Unique RefusalNumber.Post
+  pub no_entry : Unique NoEntry.Post
+  pub blank_server : Unique BlankServer.Post
+  pub blank_task : Unique BlankTask.Post
   pub with_phase_lem : Unique WithPhase.Post
   pub with_mode : Unique WithMode.Post
   pub with_runs_lem : Unique WithRuns.Post
@@ -154,13 +153,7 @@ pub record EachUnique : Type 0 where
   pub is_recharging : Unique IsRecharging.Post
   pub is_suspended : Unique IsSuspended.Post
   pub awaited_no : Unique AwaitedNo.Post
-  pub is_owned : Unique IsOwned.Post
   pub owner_no_lem : Unique OwnerNo.Post
-  pub is_placed : Unique IsPlaced.Post
   pub counts_fit_lem : Unique CountsFit.Post
   pub quota_fits_lem : Unique QuotaFits.Post
-  pub both : Unique Both.Post
-  pub either : Unique Either.Post
-  pub one_if : Unique OneIf.Post
-  pub or_else : Unique OrElse.Post
-  pub refused_if_lem : Unique RefusedIf.Post
+  pub refused_if_lem : (e : _) (laws : _) (bounds : _) → Unique (RefusedIf.Post e laws bounds)

@@ -4,7 +4,7 @@ use mathlib.Core.Bool.{Bool, true, false, true≢false}
 use mathlib.Core.Option.{Option, none, some}
 use Prim.Native.Nat.{ℕ}
 use lib.Dec.{ltb, eqb}
-use lib.ListN.{length-set, length-replicate, get_elem? as at}
+use lib.ListN.{length-set, length-replicate}
 use lib.Seq.{ext_get_or, get_or-set_other}
 use borrow.Author.Tests.{eqb-true}
 use Rattle.laws.specs.Tests.{first_of, without}

@@ -2,42 +2,29 @@
 // of which no contract can speak.
 #![tactic(auto)]
 
-ghost use Rattle.std.specs.Prelude.{◌≡◌, ◌≤◌, length, take};
+ghost use Rattle.std.specs.Prelude.{◌≡◌, ◌≤◌, length, take, IfOk};
 ghost use Rattle.listing.specs.Listing.{listing};
 ghost use Rattle.listing.specs.Replay.{room};
-ghost use Rattle.replay.specs.Input.{Within};
 
-use listing::Replayed;
-use listing::buffers::{SHORT_FILE, file_buffer, short_text_buffer, text_buffer};
+use listing::buffers::{FILE_BYTES, SHORT_FILE, SHORT_TEXT_BYTES, TEXT_BYTES, buffer};
+use listing::whole::replay;
 use std::io;
 use std::io::Read;
 
-// How many bytes were read, or that a read failed.
-#[derive(Clone, Copy)]
-enum Input {
-    Whole(usize),
-    Failed,
-}
-
-// Reads until the buffer is full or the input ends. Where a read fails, a line on standard error says so.
-fn read_all(rt: &(impl io::Input + Eprint), file: &mut [u8]) -> Input
-    ensures { Within result (length file.new) }
+// Reads until the buffer is full or the input ends, and answers how many bytes were read.
+fn read_all(rt: &impl io::Input, file: &mut [u8]) -> io::Result<usize>
+    ensures { IfOk result (λ n. n ≤ length file.new) }
 {
     let mut input = rt.reader();
     let mut n: usize = 0;
     while n < file.len() {
-        match input.read(&mut file[n..]) {
-            Ok(0) => return Input::Whole(n),
-            Ok(more) => n += more,
-            Err(error) => {
-                let _ = eprintln!(rt;
-                    "replay: no listing, give a trace that can be read on standard input: {error}"
-                );
-                return Input::Failed;
-            }
+        let more = input.read(&mut file[n..])?;
+        if more == 0 {
+            break;
         }
+        n += more;
     }
-    Input::Whole(n)
+    Ok(n)
 }
 
 // How many bytes of the buffer, which is long enough, are to be printed: they are the listing, and no more.
@@ -45,10 +32,7 @@ fn put_whole(file: &[u8], out: &mut [u8]) -> usize
     requires { room (length file.now) ≤ length out.old }
     ensures { (take result out.new ≡ listing file.now) × (result ≤ length out.new) }
 {
-    let Replayed::Written(n) = listing::whole::replay(file, out) else {
-        return 0;
-    };
-    n
+    replay(file, out).unwrap_or(0)
 }
 
 // Writes the listing to standard output, by way of the buffer. Where a write fails, a line on standard error says so.
@@ -64,15 +48,20 @@ fn print(rt: &(impl Print + Eprint), file: &[u8], out: &mut [u8])
 }
 
 fn main(rt: HostRuntime) {
-    let mut file = file_buffer();
-    let Input::Whole(n) = read_all(&rt, &mut file) else {
-        return;
+    let mut file = buffer::<FILE_BYTES>();
+    let n = match read_all(&rt, &mut file) {
+        Ok(n) => n,
+        Err(error) => {
+            let _ = eprintln!(rt;
+                "replay: no listing, give a trace that can be read on standard input: {error}"
+            );
+            return;
+        }
     };
+    // A short trace has a short buffer to clear.
     if n <= SHORT_FILE {
-        let mut out = short_text_buffer();
-        print(&rt, &file[..n], &mut out);
-        return;
+        print(&rt, &file[..n], &mut buffer::<SHORT_TEXT_BYTES>());
+    } else {
+        print(&rt, &file[..n], &mut buffer::<TEXT_BYTES>());
     }
-    let mut out = text_buffer();
-    print(&rt, &file[..n], &mut out);
 }

@@ -17,12 +17,11 @@ use Rattle.laws.proofs.Lists.{get_d_set, replicate_at}
 use Rattle.laws.proofs.Set.{length_set_to, set_at_lem, set_past, set_more, set_same, set_skip, set_kept}
 use Rattle.laws.proofs.Fold.{turns_done}
 use Rattle.laws.proofs.Best.{best_ext}
-use Rattle.model.specs.declared.Runs.{Runs}
+use Rattle.model.specs.State.{Runs, places, nobody, no_task, task_at, in_use, here, executor_number, executor_of, served, running_at, running_for}
 use Rattle.model.specs.declared.TaskNo.{TaskNo}
 use Rattle.model.specs.declared.ServerNo.{ServerNo}
 use Rattle.model.specs.declared.Task.{Task}
 use Rattle.model.specs.declared.State.{State}
-use Rattle.model.specs.State.{places, nobody, no_task, task_at, in_use, here, executor_number, executor_of, served, running_at, running_for}
 use Rattle.model.specs.RuleH.{budget_at, chosen, executor_by, runs_in, with_runs, with_tasks, settled_task, settled}
 use Rattle.model.proofs.Chain.{here_past}
 use Rattle.chain.specs.Arrays.{server_of, servers_of, ends_of, on_at, on_by, budget_in, budgets_of}

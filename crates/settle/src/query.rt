@@ -3,6 +3,7 @@ ghost use Rattle.std.specs.Prelude.{◌≡◌};
 ghost use Rattle.settle.specs.Doing.{doing, said_doing};
 
 use crate::Doing;
+use model::entries::{executor_in, in_use};
 use model::{ServerNo, State, TaskNo};
 
 // Server s executes the task that it serves, spins for it, or is not Running (nor is a number that is not in use).
@@ -11,19 +12,14 @@ pub fn doing(st: State, s: ServerNo) -> Doing
     ensures said { said_doing result ≡ said_doing (doing st s.0) }
 {
     let i = s.0 as usize;
-    if !model::entries::in_use(st.tasks, i) {
+    if !in_use(st.tasks, i) {
         return Doing::NotRunning;
     }
-    let server = st.server[i];
-    let phase = server.phase;
-    if !model::entries::is_running(phase) {
+    if !st.server[i].phase.is_running() {
         return Doing::NotRunning;
     }
     let end = chain::walk::chain_end(st, TaskNo(s.0));
-    let t = end.0 as usize;
-    let entry = st.task[t];
-    let runs = entry.runs;
-    let executor = model::entries::executor_in(runs);
+    let executor = executor_in(st.task[end.0 as usize].runs);
     if executor.0 == s.0 {
         Doing::Executes(end)
     } else {

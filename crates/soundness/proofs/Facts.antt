@@ -1,4 +1,5 @@
 -- The tests of specs/Computed.antt as facts, a law each way (`Reflects`). Assumes nothing.
+use Rattle.std.specs.Prelude.{None, Some}
 use mathlib.Core.Path.{◌≡◌, refl, sym, ap, ◌∙◌}
 use mathlib.Core.Bool.{true, ◌&&◌, ◌||◌, true≢false}
 use mathlib.Core.List.{List}
@@ -17,12 +18,8 @@ use Rattle.model.specs.declared.Phase.{Phase}
 use Rattle.model.specs.declared.Phase.TheVariants.{Idle, Active, Running, Recharging}
 use Rattle.model.specs.declared.Mode.{Mode}
 use Rattle.model.specs.declared.Mode.TheVariants.{Suspended, Ready, Waiting}
-use Rattle.model.specs.declared.Runs.{Runs}
-use Rattle.model.specs.declared.Runs.TheVariants.{Nowhere, In}
-use Rattle.model.specs.declared.Owner.{Owner}
-use Rattle.model.specs.declared.Owner.TheVariants.{Nobody, By}
+use Rattle.model.specs.State.{Runs, Owner, places, in_use, in_set, idle, running, recharging, suspended, waiting, awaited, owned, placed, executor_number, running_at}
 use Rattle.model.specs.declared.State.{State}
-use Rattle.model.specs.State.{places, in_use, in_set, idle, running, recharging, suspended, waiting, awaited, owned, placed, executor_number, running_at}
 use Rattle.model.proofs.Chain.{served_below}
 use Rattle.chain.specs.Arrays.{array_of, runs_for}
 use Rattle.chain.specs.Computed.{at_or_nobody}
@@ -105,8 +102,8 @@ serves_fact p m x =
     (reflects_or (reflects_self _) (reflects_iff (reflects_self _) (reflects_self _))))
 
 executes_cases : (xs : List ℕ) (t : ℕ) (x : Runs) → executes_passes xs t x ≡ (placed x implies eqb (at_or_nobody xs (executor_number x)) t)
-executes_cases xs t Nowhere = refl
-executes_cases xs t (In s) = refl
+executes_cases xs t None = refl
+executes_cases xs t (Some s) = refl
 
 pub executes_fact
     : (xs : List ℕ) (t : ℕ) (x : Runs) → Reflects (executes_passes xs t x) (placed x ≡ true → at_or_nobody xs (executor_number x) ≡ t)
@@ -115,12 +112,12 @@ executes_fact xs t x = rw (executes_cases xs t x) (reflects_implies (reflects_se
 pub owner_fact
     : (inForce waiting : ℕ) (o : Owner)
     → Reflects (owner_passes inForce waiting o) ((owned o ≡ true → inForce < places) × ((owned o ≡ true → ⊥) → waiting ≡ 0))
-owner_fact inForce waiting Nobody =
+owner_fact inForce waiting None =
     reflects_change
     (reflects_eq waiting 0)
     (λ e. (λ h. absurd (true≢false (sym h)), λ n. e))
     (λ h. h.1 (λ e. true≢false (sym e)))
-owner_fact inForce waiting (By t) =
+owner_fact inForce waiting (Some t) =
     reflects_change (reflects_lt inForce places) (λ l. (λ h. l, λ n. absurd (n refl))) (λ h. h.0 refl)
 
 -- what a task in a mode waits for is no number in use unless it waits

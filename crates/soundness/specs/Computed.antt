@@ -1,22 +1,18 @@
 -- Soundness as the code tests it: sizes, then tasks, resources and servers, each group in one pass. Where the definition asks of each task and each
 -- resource whether a stack or queue agrees, these ask of each entry, and compare totals; proofs/Same.antt says that it comes to the same.
 -- Assumes nothing.
-use Rattle.std.specs.Prelude.{Bool, true, not, ◌&&◌, List, ℕ, ◌+◌, ltb, leb, eqb, get_or, if◌then◌else◌}
+use Rattle.std.specs.Prelude.{None, Some, Bool, true, not, ◌&&◌, List, ℕ, ◌+◌, ltb, leb, eqb, get_or, if◌then◌else◌}
 use Rattle.laws.specs.Tests.{◌iff◌}
 use Rattle.laws.specs.Loops.{count_to, all_to, sum_to}
 use Rattle.model.specs.declared.Phase.{Phase}
 use Rattle.model.specs.declared.Phase.TheVariants.{Idle, Active, Running, Recharging}
 use Rattle.model.specs.declared.Mode.{Mode}
 use Rattle.model.specs.declared.Mode.TheVariants.{Suspended, Ready, Waiting}
-use Rattle.model.specs.declared.Runs.{Runs}
-use Rattle.model.specs.declared.Runs.TheVariants.{Nowhere, In}
-use Rattle.model.specs.declared.Owner.{Owner}
-use Rattle.model.specs.declared.Owner.TheVariants.{Nobody, By}
+use Rattle.model.specs.State.{Runs, Owner, places, server_at, task_at, resource_at, in_use, here, present, in_set, recharging, suspended, placed, owner_of, next, served}
 use Rattle.model.specs.declared.Server.{Server}
 use Rattle.model.specs.declared.Task.{Task}
 use Rattle.model.specs.declared.Resource.{Resource}
 use Rattle.model.specs.declared.State.{State}
-use Rattle.model.specs.State.{places, server_at, task_at, resource_at, in_use, here, present, in_set, recharging, suspended, placed, owner_of, next, served}
 use Rattle.model.specs.Sound.{each, each_resource, quota_fits, declared_fits, sizes_fit}
 use Rattle.chain.specs.Arrays.{array_of, wanted_of, runs_for}
 use Rattle.chain.specs.Computed.{numbers_of, at_or_nobody}
@@ -65,8 +61,8 @@ tasks_pass st = each st (task_passes_at st) && eqb (sum_to places (depth_at st))
 
 -- a resource: its owner (nobody where the owner is not in use) and its queue
 abbrev pub owner_passes : ℕ → ℕ → Owner → Bool
-owner_passes inForce waiting Nobody = eqb waiting 0
-owner_passes inForce waiting (By t) = ltb inForce places
+owner_passes inForce waiting None = eqb waiting 0
+owner_passes inForce waiting (Some t) = ltb inForce places
 
 -- every bit: a queue has no set
 abbrev pub every_bit : ℕ
@@ -108,8 +104,8 @@ server_passes clock s link last = server_fits clock s && leb places link && serv
 
 -- its own task executes only where it is served
 abbrev pub executes_passes : List ℕ → ℕ → Runs → Bool
-executes_passes runsBy t Nowhere = true
-executes_passes runsBy t (In s) = eqb (at_or_nobody runsBy s.0) t
+executes_passes runsBy t None = true
+executes_passes runsBy t (Some s) = eqb (at_or_nobody runsBy s.0) t
 
 unfoldable pub server_passes_at : State → ℕ → Bool
 server_passes_at st i =

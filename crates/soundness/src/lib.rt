@@ -3,4 +3,5 @@
 
 mod entries;
 mod lists;
+mod reading;
 pub mod sound;

@@ -4,14 +4,14 @@ ghost use Rattle.std.specs.Prelude.{◌≡◌, ◌<◌, eqb, if◌then◌else◌
 ghost use Rattle.model.specs.State.{placed, executor_number};
 ghost use Rattle.step.specs.Computed.{answer_by, Within};
 
+use model::entries::executor_in;
 use model::{Answer, Event, ServerNo, State, Task, TaskNo};
 
 // `executes` or `spins`, and the task served.
 fn dispatched(task: Task, end: TaskNo, s: ServerNo) -> Answer
     ensures { result ≡ (if eqb (executor_number task.runs) s.0 then Answer.Executes end else Answer.Spins end) }
 {
-    let runs = task.runs;
-    let executor = model::entries::executor_in(runs);
+    let executor = executor_in(task.runs);
     if executor.0 == s.0 {
         Answer::Executes(end)
     } else {
@@ -23,8 +23,7 @@ fn dispatched(task: Task, end: TaskNo, s: ServerNo) -> Answer
 fn preempted(task: Task, told: Answer) -> Answer
     ensures { result ≡ (if placed task.runs then told else Answer.Ok 0) }
 {
-    let runs = task.runs;
-    if model::entries::is_placed(runs) {
+    if task.runs.is_some() {
         told
     } else {
         Answer::Ok(0)
@@ -37,8 +36,6 @@ pub fn answered(told: Answer, after: State, ends: [TaskNo; 16], e: Event) -> Ans
     ensures { result ≡ answer_by told after.task ends e }
 {
     match e {
-        Event::Wake(_) => told,
-        Event::Suspend(_) => told,
         Event::Dispatch(s) => {
             let end = ends[s.0 as usize];
             dispatched(after.task[end.0 as usize], end, s)
@@ -47,9 +44,11 @@ pub fn answered(told: Answer, after: State, ends: [TaskNo; 16], e: Event) -> Ans
             let end = ends[s.0 as usize];
             preempted(after.task[end.0 as usize], told)
         }
-        Event::Elapse(_) => told,
-        Event::Recharge(_) => told,
-        Event::Lock(_, _) => told,
-        Event::Unlock(_, _) => told,
+        Event::Wake(_)
+        | Event::Suspend(_)
+        | Event::Elapse(_)
+        | Event::Recharge(_)
+        | Event::Lock(_, _)
+        | Event::Unlock(_, _) => told,
     }
 }

@@ -6,7 +6,7 @@ ghost use Rattle.model.specs.Step.{outcome, attempted, stepped};
 ghost use Rattle.model.specs.Said.{said};
 ghost use Rattle.events.specs.Changes.{Clear};
 
-use model::{Event, Outcome, State, Verdict};
+use model::{Event, Outcome, Refusal, State};
 
 // An event that no test refuses, on a sound state.
 fn taken(st: State, e: Event) -> Outcome
@@ -28,14 +28,13 @@ pub fn attempted(st: State, e: Event) -> Outcome
     requires { sound st ≡ true }
     ensures { result ≡ attempted st e }
 {
-    let verdict = events::event::refusal(st, e);
-    if let Verdict::Refused(n) = verdict {
-        return Outcome {
-            answer: events::event::refusing(st, e, n),
+    match events::event::refusal(st, e) {
+        Ok(()) => taken(st, e),
+        Err(refusal) => Outcome {
+            answer: events::event::refusing(st, e, u16::from(refusal)),
             state: st,
-        };
+        },
     }
-    taken(st, e)
 }
 
 // The answer to an event, and the next state. An unsound state is refused and handed back as it came.
@@ -44,7 +43,7 @@ pub fn step(st: State, e: Event) -> Outcome
     ensures says { said result.answer ≡ said (stepped st e).answer }
 {
     if !soundness::sound::is_sound(st) {
-        return model::builders::refused(st, 1);
+        return Outcome::refused(st, Refusal::Unsound);
     }
     attempted(st, e)
 }

@@ -1,14 +1,12 @@
 -- The layer's types and their variants under one name: a file here takes what it needs of them in one line. Assumes nothing.
+pub use Rattle.std.specs.Prelude.{None, Some}
 pub use Rattle.model.specs.declared.TaskNo.{TaskNo}
 pub use Rattle.model.specs.declared.ServerNo.{ServerNo}
 pub use Rattle.model.specs.declared.Phase.{Phase}
 pub use Rattle.model.specs.declared.Phase.TheVariants.{Idle, Active, Running, Recharging}
 pub use Rattle.model.specs.declared.Mode.{Mode}
 pub use Rattle.model.specs.declared.Mode.TheVariants.{Suspended, Ready, Waiting}
-pub use Rattle.model.specs.declared.Runs.{Runs}
-pub use Rattle.model.specs.declared.Runs.TheVariants.{Nowhere, In}
-pub use Rattle.model.specs.declared.Owner.{Owner}
-pub use Rattle.model.specs.declared.Owner.TheVariants.{Nobody, By}
+pub use Rattle.model.specs.State.{Runs, Owner}
 pub use Rattle.model.specs.declared.Server.{Server}
 pub use Rattle.model.specs.declared.Task.{Task}
 pub use Rattle.model.specs.declared.Resource.{Resource}

@@ -1,7 +1,7 @@
 -- Who executes. Of a loose state: a task that executes is ready and waits for nobody (`runs_ready`, `runs_ended`), and one that a Running server
 -- serves executes. After every accepted event (`Way`): rule H's three steps, and no choice left (`rule_h`), from the laws of rule H on the state after
 -- the change, which is shaped. Assumes nothing.
-use Rattle.theory.proofs.Kit.{◌≡◌, refl, sym, ap, ◌∙◌, true, false, true≢false, ⊎_elim, ◌⊎◌, inl, inr, some, ℕ, ◌≤◌, ◌<◌, arith, ltb, length, ltb-true, ltb-false}
+use Rattle.theory.proofs.Kit.{◌≡◌, refl, sym, ap, ◌∙◌, true, false, true≢false, ⊎_elim, ◌⊎◌, inl, inr, ℕ, ◌≤◌, ◌<◌, arith, ltb, length, ltb-true, ltb-false}
 use Rattle.laws.proofs.Cases.{split, holds_fails, unheld_fails, and_left, and_right, and_both}
 use Rattle.theory.proofs.Declared.{Running, Ready, State, Event}
 use Rattle.model.specs.State.{places, server_at, task_at, resource_at, here, present, idle, recharging, suspended, waiting, awaited, owned, next, served, running_at, running_for, executor_of, executing, placed}

@@ -1,7 +1,7 @@
 -- Each rule of the paper fixes the whole next state: two states that it allows differ past the counts only. A rule names an entry, the same in all
 -- states that it allows, or does not touch it. With the entries every link and every chain end is given, so that the best Running server of
 -- a set is the same one in both; and then the executors are. Each rule cites that by what it names. Assumes nothing.
-use Rattle.theory.proofs.Kit.{◌≡◌, refl, sym, ap, ◌∙◌, Bool, true, false, ◌⊎◌, inl, inr, ⊎_elim, ℕ, ◌+◌, ◌-◌, eqb, eqb-true, eqb-false}
+use Rattle.theory.proofs.Kit.{◌≡◌, refl, sym, ap, ◌∙◌, Bool, true, false, ◌⊎◌, inl, inr, ⊎_elim, ℕ, ◌+◌, eqb, eqb-true, eqb-false}
 use Rattle.laws.proofs.Cases.{split, holds_fails}
 use Rattle.theory.proofs.Declared.{Suspended, Ready, Waiting, Server, Task, Resource, State}
 use Rattle.model.specs.State.{nobody, server_at, task_at, resource_at, here, present, idle, recharging, suspended, awaited, owner_no, owner_of, next, served, running_at, running_for, executor_of, executing}

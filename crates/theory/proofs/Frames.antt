@@ -7,7 +7,7 @@ use Rattle.theory.proofs.Kit.{◌≡◌, refl, sym, ap, subst, ◌∙◌, true, 
 use Rattle.laws.proofs.Cases.{split, holds_fails, if_yes, if_no, and_right}
 use Rattle.laws.proofs.Lists.{store_cases}
 use Rattle.laws.proofs.Set.{length_set_to, each_cases}
-use Rattle.theory.proofs.Declared.{TaskNo, Phase, Idle, Active, Running, Mode, Suspended, Ready, Waiting, Runs, Nobody, By, Server, Task, Resource, State, Event, Wake, Suspend, Dispatch, Preempt, Elapse, Recharge, Lock, Unlock}
+use Rattle.theory.proofs.Declared.{TaskNo, Phase, Idle, Active, Running, Mode, Suspended, Ready, Waiting, Runs, None, Some, Server, Task, Resource, State, Event, Wake, Suspend, Dispatch, Preempt, Elapse, Recharge, Lock, Unlock}
 use Rattle.model.specs.State.{places, no_server, no_task, no_resource, server_at, task_at, resource_at, in_use, here, present, idle, active, running, suspended, owned, served}
 use Rattle.model.specs.Shape.{Shaped}
 use Rattle.model.specs.RuleH.{with_runs, settled}
@@ -114,11 +114,11 @@ pub data TaskMade (st : State) (e : Event) (i : ℕ) (x : Task) : Type 0 where
 
 pub data ResourceMade (st : State) (e : Event) (q : ℕ) (x : Resource) : Type 0 where
   queued : (t : TaskNo) → e ≡ Lock t q → x ≡ enqueued t.0 (resource_at st q) → ResourceMade st e q x
-  owned_by : (t : TaskNo) → e ≡ Lock t q → x ≡ with_owner (By (record { 0 = t.0 })) (resource_at st q) → ResourceMade st e q x
-  given_up : (t : TaskNo) → e ≡ Unlock t q → x ≡ with_owner Nobody (resource_at st q) → ResourceMade st e q x
+  owned_by : (t : TaskNo) → e ≡ Lock t q → x ≡ with_owner (Some (record { 0 = t.0 })) (resource_at st q) → ResourceMade st e q x
+  given_up : (t : TaskNo) → e ≡ Unlock t q → x ≡ with_owner None (resource_at st q) → ResourceMade st e q x
   passed_on
       : (t : TaskNo) → e ≡ Unlock t q → 0 < (resource_at st q).waiting
-      → x ≡ with_owner (By (record { 0 = first_waiter (resource_at st q) })) (dequeued (resource_at st q)) → ResourceMade st e q x
+      → x ≡ with_owner (Some (record { 0 = first_waiter (resource_at st q) })) (dequeued (resource_at st q)) → ResourceMade st e q x
 
 -- an entry stays, or is made so
 abbrev pub ServerAfter : State → Event → ℕ → Server → Type 0

@@ -1,7 +1,7 @@
 -- A grant and a release with nobody waiting: nothing but the resource and the stack changes. Assumes nothing.
 use Rattle.std.specs.Prelude.{if◌then◌else◌}
 use Rattle.theory.proofs.Kit.{◌≡◌, refl, ap, ◌∙◌, true, false, ℕ, eqb, eq-eqb, ne_eqb}
-use Rattle.theory.proofs.Declared.{Nobody, By, Server, Task, Resource, State, Event, Lock, Unlock}
+use Rattle.theory.proofs.Declared.{None, Some, Server, Task, Resource, State, Event, Lock, Unlock}
 use Rattle.model.specs.State.{task_at, resource_at, here, present, running, owned}
 use Rattle.model.specs.Events.{pushed, popped, with_owner, granted, locked, freed, unlocked, changed}
 use Rattle.model.specs.Step.{state_after, stepped}
@@ -34,7 +34,7 @@ grants
     → Granted st (state_after st (Lock (record { 0 = t }) r)) t r
 unfolding locked granted
 grants st t r free w =
-    let p = stored st (Lock (record { 0 = t }) r) w t r (pushed r (task_at st t)) (with_owner (By (record { 0 = t })) (resource_at st r)) (rw free)
+    let p = stored st (Lock (record { 0 = t }) r) w t r (pushed r (task_at st t)) (with_owner (Some (record { 0 = t })) (resource_at st r)) (rw free)
     w.ground.0 w.ground.1 free in
     record { rest = p.0; owner = p.1; stack = p.2; ends = p.3; executors = p.4 }
 
@@ -43,7 +43,7 @@ frees
     → Freed st (state_after st (Unlock (record { 0 = t }) r)) t r
 unfolding unlocked freed
 frees st t r empty w =
-    let p = stored st (Unlock (record { 0 = t }) r) w t r (popped (task_at st t)) (with_owner Nobody (resource_at st r)) (rw (eq-eqb _ 0 empty))
+    let p = stored st (Unlock (record { 0 = t }) r) w t r (popped (task_at st t)) (with_owner None (resource_at st r)) (rw (eq-eqb _ 0 empty))
     w.ground.0 w.ground.1 empty in
     record { rest = p.0; owner = p.1; stack = p.2; ends = p.3; executors = p.4 }
 

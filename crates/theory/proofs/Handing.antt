@@ -7,7 +7,7 @@ use Rattle.laws.specs.Loops.{count_to}
 use Rattle.laws.specs.Links.{Leads}
 use Rattle.laws.proofs.Cases.{split, holds_fails, unheld_fails, and_left, and_right, and_both}
 use Rattle.laws.proofs.Count.{count_zero}
-use Rattle.theory.proofs.Declared.{Mode, Suspended, Ready, Waiting, By, Server, State, Event, Unlock}
+use Rattle.theory.proofs.Declared.{Mode, Suspended, Ready, Waiting, Some, Server, State, Event, Unlock}
 use Rattle.model.specs.State.{places, server_at, task_at, resource_at, here, present, running, awaited, owner_no, owner_of, next, served, running_for, executor_of, executing}
 use Rattle.model.specs.Sound.{held_at}
 use Rattle.model.specs.Events.{with_mode, with_owner, pushed, popped, dequeued, first_waiter, passed, unlocked, changed, acting}
@@ -116,7 +116,7 @@ module _ (st : State) (t r : ℕ) (some : 0 < (resource_at st r).waiting) (way :
       → task_at (changed st e) y ≡ (if eqb y h then pushed r (with_mode Ready (task_at st h)) else if eqb y t then popped (task_at st t) else task_at st y)
   task_now y = ap (λ z. task_at z y) changed_is ∙ T.pass_task st t r some way y
 
-  resource_now : (q : ℕ) → resource_at (changed st e) q ≡ (if eqb q r then with_owner (By (record { 0 = h })) (dequeued (resource_at st r)) else resource_at st q)
+  resource_now : (q : ℕ) → resource_at (changed st e) q ≡ (if eqb q r then with_owner (Some (record { 0 = h })) (dequeued (resource_at st r)) else resource_at st q)
   resource_now q = ap (λ z. resource_at z q) changed_is ∙ T.pass_resource st t r some way q
 
   server_now : (s : ℕ) → server_at (changed st e) s ≡ server_at st s

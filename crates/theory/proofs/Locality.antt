@@ -10,7 +10,7 @@ use Rattle.laws.proofs.Set.{set_kept}
 use Rattle.laws.proofs.SameAt.{SameAt, store_both, stored_both, each_both}
 use Rattle.reordering.specs.Order.{Kind, time, group, sees}
 use Rattle.reordering.proofs.Local.{group_inj, time_group}
-use Rattle.theory.proofs.Declared.{TaskNo, Active, Running, Suspended, Ready, Waiting, Runs, Nowhere, In, Nobody, By, Server, Task, Resource, State, Event, Wake, Suspend, Dispatch, Preempt, Elapse, Recharge, Lock, Unlock}
+use Rattle.theory.proofs.Declared.{TaskNo, Active, Running, Suspended, Ready, Waiting, Runs, None, Some, Server, Task, Resource, State, Event, Wake, Suspend, Dispatch, Preempt, Elapse, Recharge, Lock, Unlock}
 use Rattle.model.specs.State.{places, no_server, no_task, no_resource, server_at, task_at, resource_at, here, present, idle, active, running, suspended, awaited, owned, owner_no, placed, executor_number, served, running_for, executor_of}
 use Rattle.model.specs.RuleH.{chosen, executor_by, runs_in, settled_task, settled}
 use Rattle.model.specs.Events.{with_phase, refilled, with_mode, server_by, each_server, wakes, woken_server, woken, rests, rested_server, rested, slept, phased, own_ticks, lent_ticks, spin_ticks, runs_out, spent_server, ticked_task, task_by, elapsed, recharged_phase, recharged, pushed, popped, with_owner, enqueued, dequeued, first_waiter, granted, joined, rested_end, locked, freed, passed, unlocked, changed, acting}
@@ -244,7 +244,7 @@ module _ (l : Labels) (g : ℕ) (s u : State) (a : Agree l g s u) where
   granted_same : (t r : ℕ) → Agree l g (granted s t r) (granted u t r)
   unfolding granted
   granted_same t r =
-      agree_by a.clock_same a.server_same (stored_both a.task_same t (pushed r)) (stored_both a.resource_same r (with_owner (By (record { 0 = t }))))
+      agree_by a.clock_same a.server_same (stored_both a.task_same t (pushed r)) (stored_both a.resource_same r (with_owner (Some (record { 0 = t }))))
 
   joined_same : (t r : ℕ) → Agree l g (joined s t r) (joined u t r)
   unfolding joined
@@ -253,14 +253,14 @@ module _ (l : Labels) (g : ℕ) (s u : State) (a : Agree l g s u) where
 
   freed_same : (t r : ℕ) → Agree l g (freed s t r) (freed u t r)
   unfolding freed
-  freed_same t r = agree_by a.clock_same a.server_same (stored_both a.task_same t popped) (stored_both a.resource_same r (with_owner Nobody))
+  freed_same t r = agree_by a.clock_same a.server_same (stored_both a.task_same t popped) (stored_both a.resource_same r (with_owner None))
 
   passed_same : (t r i : ℕ) → Agree l g (passed s t r i) (passed u t r i)
   unfolding passed
   passed_same t r i =
       agree_by a.clock_same a.server_same
       (store_both (stored_both a.task_same t popped) i _ _ (λ k. ap (λ z. pushed r (with_mode Ready z)) (a.task_same.entry i k)))
-      (stored_both a.resource_same r (λ x. with_owner (By (record { 0 = i })) (dequeued x)))
+      (stored_both a.resource_same r (λ x. with_owner (Some (record { 0 = i })) (dequeued x)))
 
 -- an accepted event that the group sees: its own, or time passing
 module _ (l : Labels) (g : ℕ) (s u : State) (a : Agree l g s u) (good : Good l s) (fine : Good l u) where
@@ -343,12 +343,12 @@ module _ (l : Labels) (g : ℕ) (old was s u : State) (before : Agree l g old wa
 
 -- and where it is settled already it changes nothing
 runs_again : (x : Runs) → placed x ≡ true → executor_number x < places → runs_in (executor_number x) ≡ x
-runs_again Nowhere p k = holds_fails p refl
-runs_again (In s) p k = rw (lt-ltb s.0 places k) refl
+runs_again None p k = holds_fails p refl
+runs_again (Some s) p k = rw (lt-ltb s.0 places k) refl
 
-runs_nowhere : (x : Runs) → placed x ≡ false → x ≡ Nowhere
-runs_nowhere Nowhere p = refl
-runs_nowhere (In s) p = holds_fails refl p
+runs_nowhere : (x : Runs) → placed x ≡ false → x ≡ None
+runs_nowhere None p = refl
+runs_nowhere (Some s) p = holds_fails refl p
 
 module _ (st : State) (ok : Loose st) where
   -- no server runs for a task that executes nowhere

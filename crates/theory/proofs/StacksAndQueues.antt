@@ -8,7 +8,7 @@ use Rattle.laws.specs.Tests.{bit}
 use Rattle.laws.proofs.Cases.{split}
 use Rattle.laws.proofs.Lists.{set_keeps}
 use Rattle.laws.proofs.Standing.{same_standing, put_standing, taken_standing}
-use Rattle.theory.proofs.Declared.{TaskNo, Waiting, Nobody, By, Task, Resource, State}
+use Rattle.theory.proofs.Declared.{TaskNo, Waiting, None, Some, Task, Resource, State}
 use Rattle.model.specs.State.{places, nobody, no_task, no_resource, task_at, resource_at, in_set, here, present, declares, waiting, awaited, owned, owner_no}
 use Rattle.model.specs.Shape.{Shaped}
 use Rattle.model.specs.Events.{with_task, with_resource, with_mode, with_owner, pushed, popped, enqueued, granted, freed, joined}
@@ -95,7 +95,7 @@ module _ (st : State) (shaped : Shaped st) (t r : ℕ) (used : here st t ≡ tru
     unfolding granted here present
     take_stacks free may room =
         let new = pushed r k in
-        let by = with_owner (By (record { 0 = t })) x in
+        let by = with_owner (Some (record { 0 = t })) x in
         let long = shaped.stacks t (here_below st t used) in
         put_standing l (here_below st)
         r t
@@ -112,7 +112,7 @@ module _ (st : State) (shaped : Shaped st) (t r : ℕ) (used : here st t ≡ tru
     unfolding freed here present top_of
     give_stacks owns top some =
         let new = popped k in
-        let by = with_owner Nobody x in
+        let by = with_owner None x in
         let fits = (l.filled t used).0 in
         taken_standing l (here_below st)
         r t

@@ -5,7 +5,7 @@
 use Rattle.theory.proofs.Kit.{◌≡◌, refl, sym, ◌∙◌, true, false, ℕ, ◌<◌, length, ap, eq-eqb, true≢false}
 use Rattle.laws.proofs.Cases.{split, holds_fails, unheld_fails}
 use Rattle.laws.proofs.Set.{set_at_lem}
-use Rattle.theory.proofs.Declared.{Runs, Nowhere, In, Task, State, Event, Suspended, Ready, Wake, Suspend, Dispatch, Preempt, Elapse, Recharge, Lock, Unlock}
+use Rattle.theory.proofs.Declared.{Runs, None, Some, Task, State, Event, Suspended, Ready, Wake, Suspend, Dispatch, Preempt, Elapse, Recharge, Lock, Unlock}
 use Rattle.model.specs.State.{nobody, no_task, server_at, task_at, resource_at, here, present, running, placed, executor_number, served, running_at, running_for, executor_of, executing, waiting, awaited, owned}
 use Rattle.model.specs.Shape.{Shaped}
 use Rattle.model.specs.RuleH.{budget_at, chosen, settled_task, settled}
@@ -27,8 +27,8 @@ use Rattle.theory.proofs.Locking.{quiet_served}
 use Rattle.model.proofs.Variants.{suspended_is}
 
 unplaced : (x : Runs) → placed x ≡ false → executor_number x ≡ nobody
-unplaced Nowhere e = refl
-unplaced (In s) e = holds_fails refl e
+unplaced None e = refl
+unplaced (Some s) e = holds_fails refl e
 
 -- a task in use that does not execute has no executor
 pub executor_none : (st : State) (t : ℕ) → here st t ≡ true → executing st t ≡ false → executor_of st t ≡ nobody

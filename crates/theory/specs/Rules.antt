@@ -2,11 +2,10 @@
 -- and the paper's rules (document 004, section 5.1), each beside our rule's number and with our rule's difference where there is one. Each fixes the
 -- whole next state: `Rest` says once what stays, and beside it stand the entries that change, the chain ends and the executors. What is not in use
 -- stays in every event (promises.PastKept). Assumes nothing.
-use Rattle.std.specs.Prelude.{◌≡◌, true, false, ◌⊎◌, ℕ, suc, ◌+◌, ◌-◌, ◌<◌, ◌≤◌, if◌then◌else◌}
+use Rattle.std.specs.Prelude.{None, Some, ◌≡◌, true, false, ◌⊎◌, ℕ, suc, ◌+◌, ◌-◌, ◌<◌, ◌≤◌, if◌then◌else◌}
 use Rattle.laws.specs.Links.{Leads}
 use Rattle.model.specs.declared.Phase.TheVariants.{Idle, Active, Running, Recharging}
 use Rattle.model.specs.declared.Mode.TheVariants.{Suspended, Ready, Waiting}
-use Rattle.model.specs.declared.Owner.TheVariants.{Nobody, By}
 use Rattle.model.specs.declared.Task.{Task}
 use Rattle.model.specs.declared.State.{State}
 use Rattle.model.specs.declared.Event.{Event}
@@ -155,7 +154,7 @@ pub record Woken (st after : State) (j : TaskNumber) : Type 0 where
 -- rule 7.7, locking, the resource free: the task owns it, on top of its stack, and whoever executed goes on
 pub record Granted (st after : State) (t : TaskNumber) (r : ResourceNumber) : Type 0 where
   pub rest : Rest st after st.clock Nothing (Only t) (Only r)
-  pub owner : resource_at after r ≡ with_owner (By (record { 0 = t })) (resource_at st r)
+  pub owner : resource_at after r ≡ with_owner (Some (record { 0 = t })) (resource_at st r)
   pub stack : TaskIs after t (pushed r (task_at st t))
   pub ends : EndsStay st after
   pub executors : ExecutorsStay st after Nothing
@@ -188,7 +187,7 @@ pub record LockedBehind (st after : State) (t : TaskNumber) (r : ResourceNumber)
 -- rule 7.9, unlocking with nobody waiting: nothing but the resource and the stack changes
 pub record Freed (st after : State) (j : TaskNumber) (r : ResourceNumber) : Type 0 where
   pub rest : Rest st after st.clock Nothing (Only j) (Only r)
-  pub owner : resource_at after r ≡ with_owner Nobody (resource_at st r)
+  pub owner : resource_at after r ≡ with_owner None (resource_at st r)
   pub stack : TaskIs after j (popped (task_at st j))
   pub ends : EndsStay st after
   pub executors : ExecutorsStay st after Nothing
@@ -198,7 +197,7 @@ pub record Freed (st after : State) (j : TaskNumber) (r : ResourceNumber) : Type
 -- the other one goes on in the best Running server of its set, or nowhere.
 pub record Passed (st after : State) (j : TaskNumber) (r : ResourceNumber) (i : TaskNumber) : Type 0 where
   pub rest : Rest st after st.clock Nothing (λ t. (t ≡ j) ⊎ (t ≡ i)) (Only r)
-  pub owner : resource_at after r ≡ with_owner (By (record { 0 = i })) (dequeued (resource_at st r))
+  pub owner : resource_at after r ≡ with_owner (Some (record { 0 = i })) (dequeued (resource_at st r))
   pub heir_stack : TaskIs after i (pushed r (with_mode Ready (task_at st i)))
   pub releaser_stack : TaskIs after j (popped (task_at st j))
   pub through : (s : ServerNumber) → here st s ≡ true → Through st r s → served after s ≡ i

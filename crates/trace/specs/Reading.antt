@@ -1,5 +1,6 @@
 -- What reading a record at a place of a trace gives: rules 13.1 to 13.5 and 13.8. Assumes nothing.
-use Rattle.std.specs.Prelude.{Bool, not, ◌&&◌, ◌||◌, List, [], ◌∷◌, ℕ, zero, suc, ◌+◌, ◌-◌, ltb, leb, eqb, length, if◌then◌else◌}
+use Rattle.std.specs.Prelude.{Bool, not, ◌&&◌, ◌||◌, List, [], ◌∷◌, ℕ, zero, suc, ◌+◌, ◌-◌, ltb, leb, eqb, length, if◌then◌else◌, Result, Ok, Err, Some, None}
+use Rattle.std.specs.Prelude as rust
 use Rattle.std.proofs.Math.Option.{Option, none, some}
 use Rattle.laws.specs.Tests.{◌when◌or◌, accepted, first_of}
 use Rattle.lent_bytes.specs.Numbers.{two_bytes, four_bytes}
@@ -8,8 +9,7 @@ use Rattle.model.specs.declared.Event.{Event}
 use Rattle.model.specs.declared.Event.TheVariants.{Wake, Suspend, Dispatch, Preempt, Elapse, Recharge, Lock, Unlock}
 use Rattle.trace.specs.declared.Record.{Record}
 use Rattle.trace.specs.declared.Record.TheVariants.{Counts, Reservation, Happening}
-use Rattle.trace.specs.declared.Read.{Read}
-use Rattle.trace.specs.declared.Read.TheVariants.{Got, End, Fault}
+use Rattle.trace.specs.declared.Place.{Place}
 
 -- the bytes of a kind's body, 0 for an unknown kind: rules 13.2 and 13.3
 unfoldable pub body_length : ℕ → ℕ
@@ -72,20 +72,33 @@ read_fault file at =
     accepted
     )
 
+-- what reading at a place finds: a record with the place after it, nothing at the file's end, or a fault: rule 13.8
+abbrev pub Read : Type 0
+Read = Result (rust.Option (Record × Place)) ℕ
+
+abbrev pub got : Record → Place → Read
+got r next = Ok (Some (r, next))
+
+abbrev pub ended : Read
+ended = Ok None
+
+abbrev pub fault : ℕ → Read
+fault n = Err n
+
 -- a record (rule 13.1) and the place after it, or the fault: rule 13.8
 abbrev pub read_by : Option ℕ → List ℕ → ℕ → Read
-read_by none file at = Got (record_in (two_bytes file (at + 2)) file (at + 4)) (record { at = at + 2 + two_bytes file at })
-read_by (some n) file at = Fault n
+read_by none file at = got (record_in (two_bytes file (at + 2)) file (at + 4)) (record { at = at + 2 + two_bytes file at })
+read_by (some n) file at = fault n
 
 unfoldable pub read_at : List ℕ → ℕ → Read
-read_at file at = if leb (length file) at then End else read_by (read_fault file at) file at
+read_at file at = if leb (length file) at then ended else read_by (read_fault file at) file at
 
 -- what a file holds from a place on: each reading with its offset, up to the file's end or its first fault. A record is 6 bytes or longer,
 -- so that the file's length is fuel enough (law `items_is`).
 abbrev pub items_after : (ℕ → List (ℕ × Read)) → Read → List (ℕ × Read)
-items_after rest (Got r p) = rest p.at
-items_after rest End = []
-items_after rest (Fault n) = []
+items_after rest (Ok (Some found)) = rest found.1.at
+items_after rest (Ok None) = []
+items_after rest (Err n) = []
 
 unfoldable pub items_from : ℕ → List ℕ → ℕ → List (ℕ × Read)
 items_from zero file at = []

@@ -5,6 +5,7 @@ ghost use Rattle.trace.specs.Reading.{body_length, is_event, event_of};
 use model::{Event, ServerNo, TaskNo};
 
 // The bytes of a kind's body, 0 for an unknown kind.
+#[tactic(auto, unfolding(crate::specs::Reading::body_length))]
 pub fn body_length(kind: u16) -> usize
     ensures { result ≡ body_length kind }
 {
@@ -20,7 +21,7 @@ pub fn body_length(kind: u16) -> usize
 pub fn is_event(kind: u16) -> bool
     ensures { result ≡ is_event kind }
 {
-    if 1 <= kind { kind <= 8 } else { false }
+    matches!(kind, 1..=8)
 }
 
 // The event of an event's kind, from its operands; each kind looks at its own alone.

@@ -19,16 +19,6 @@ pub enum Record {
     Happening(Event),
 }
 
-// What reading at a place finds.
-#[derive(Clone, Copy)]
-pub enum Read {
-    Got(Record, Place),
-    // the file ends here, between records
-    End,
-    // 30 or 31
-    Fault(u16),
-}
-
 pub mod kinds;
 pub mod lines;
 mod reading;

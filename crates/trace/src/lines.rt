@@ -6,6 +6,7 @@ ghost use Rattle.trace.specs.Reading.{entry_in};
 use lent_bytes::numbers::{four_bytes, two_bytes};
 use model::Entry;
 
+#[tactic(auto, unfolding(crate::specs::Reading::entry_in))]
 pub fn entry_in(file: &[u8], at: usize) -> Entry
     requires { at + 10 ≤ length file.now }
     ensures { result ≡ entry_in file.now at }

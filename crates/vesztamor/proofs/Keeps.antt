@@ -1,27 +1,23 @@
 -- A refusal writes nothing: where an exported function answers `refused`, the bytes lent to it stay as they were. Assumes nothing.
-use Rattle.std.specs.Prelude.{if◌then◌else◌}
+use Rattle.std.specs.Prelude.{if◌then◌else◌, Ok, Err}
 use mathlib.Core.Path.{◌≡◌, refl}
 use mathlib.Core.Bool.{Bool, true, false}
 use mathlib.Core.List.{List}
 use mathlib.Core.Option.{Option, none, some}
 use Prim.Native.Nat.{ℕ}
-use native.Mathlib.Omega.{arith}
 use lib.Dec.{leb, eqb}
 use lib.ListN.{length}
 use Rattle.laws.proofs.Cases.{split}
 use Rattle.model.specs.declared.Answer.{Answer}
 use Rattle.model.specs.declared.Answer.TheVariants.{Ok, Executes, Spins, Granted, Waits, Passed, Freed, Refused, RefusedWaiting}
 use Rattle.model.specs.declared.Event.{Event}
-use Rattle.model.specs.declared.FreshAnswer.{FreshAnswer}
-use Rattle.model.specs.declared.FreshAnswer.TheVariants as fresh
 use Rattle.model.specs.declared.Outcome.{Outcome}
 use Rattle.model.specs.declared.State.{State}
 use Rattle.model.specs.Said.{ok, refused, said, is_refused}
 use Rattle.model.specs.Fresh.{fresh_of}
 use Rattle.model.specs.Step.{stepped}
-use Rattle.bound.specs.declared.Bounded.{Bounded}
-use Rattle.bound.specs.declared.Bounded.TheVariants as bounded
-use Rattle.bound.specs.Answer.{answer}
+use Rattle.model.specs.Verdicts.{Verdict}
+use Rattle.bound.specs.Answer.{Bounded, answer}
 use Rattle.listing.specs.Replay.{room, replayed, buffer_after}
 use Rattle.image.specs.Layout.{image_size}
 use Rattle.image.specs.Decoded.{decoded}
@@ -36,22 +32,22 @@ either_keeps : (b : Bool) (bytes : List ℕ) (x y : Exported) → Keeps bytes x 
 either_keeps true bytes x y f g = f
 either_keeps false bytes x y f g = g
 
-made_keeps : (a : FreshAnswer) (st : State) (bytes : List ℕ) → Keeps bytes (fresh_left a st bytes)
-made_keeps fresh.Made st bytes e = let z : ◌≡◌ {A = ℕ} 0 1 = cc in absurd (omega arith)
-made_keeps (fresh.Refused n) st bytes e = refl
+made_keeps : (a : Verdict) (st : State) (bytes : List ℕ) → Keeps bytes (fresh_left a st bytes)
+made_keeps (Ok made) st bytes e = cc
+made_keeps (Err n) st bytes e = refl
 
 found_keeps : (a : Bounded) (bytes : List ℕ) → Keeps bytes (bound_left a bytes)
-found_keeps (bounded.Bound value weighings) bytes e = let z : ◌≡◌ {A = ℕ} 0 1 = cc in absurd (omega arith)
-found_keeps (bounded.Refused n) bytes e = refl
+found_keeps (Ok found) bytes e = cc
+found_keeps (Err n) bytes e = refl
 
 told_refused : (a : Answer) → (said a).0 ≡ refused → is_refused a ≡ true
-told_refused (Ok n) e = let z : ◌≡◌ {A = ℕ} 0 1 = cc in absurd (omega arith)
-told_refused (Executes t) e = let z : ◌≡◌ {A = ℕ} 0 1 = cc in absurd (omega arith)
-told_refused (Spins t) e = let z : ◌≡◌ {A = ℕ} 0 1 = cc in absurd (omega arith)
-told_refused (Granted r) e = let z : ◌≡◌ {A = ℕ} 0 1 = cc in absurd (omega arith)
-told_refused (Waits t) e = let z : ◌≡◌ {A = ℕ} 0 1 = cc in absurd (omega arith)
-told_refused (Passed t) e = let z : ◌≡◌ {A = ℕ} 0 1 = cc in absurd (omega arith)
-told_refused (Freed r) e = let z : ◌≡◌ {A = ℕ} 0 1 = cc in absurd (omega arith)
+told_refused (Ok n) e = cc
+told_refused (Executes t) e = cc
+told_refused (Spins t) e = cc
+told_refused (Granted r) e = cc
+told_refused (Waits t) e = cc
+told_refused (Passed t) e = cc
+told_refused (Freed r) e = cc
 told_refused (Refused n) e = refl
 told_refused (RefusedWaiting r) e = refl
 
@@ -86,7 +82,5 @@ unfolding replay_export replayed buffer_after
 replay_keeps trace bytes e =
     split (leb (room (length trace)) (length bytes))
     (λ y.
-    let q : ok ≡ refused = rw y at e in
-    let z : ◌≡◌ {A = ℕ} 0 1 = cc in
-    absurd (omega arith))
+    let q : ok ≡ refused = rw y at e in cc)
     (λ n. rw n)

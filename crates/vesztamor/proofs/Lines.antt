@@ -2,7 +2,9 @@
 use mathlib.Core.Path.{◌≡◌}
 use mathlib.Core.Bool.{true}
 use mathlib.Core.List.{List}
-use Prim.Native.Nat.{ℕ, ◌+◌, ◌*◌, ◌<◌, ◌≤◌}
+use Prim.Native.Nat.{ℕ, suc, ◌+◌, ◌*◌, ◌<◌, ◌≤◌}
+use native.Mathlib.Nat.{mul-suc, mul-le-mul_left}
+use native.Mathlib.Omega.{arith}
 use lib.Dec.{leb}
 use lib.ListN.{length}
 use borrow.Author.Tests.{leb-true, eqb-true, lt-ltb, le-ltb}
@@ -18,6 +20,11 @@ module _ (header size : ℕ) (bytes : List ℕ) where
   pub sized_length : is_sized header size bytes ≡ true → length bytes ≡ header + size * two_bytes bytes 2
   unfolding is_sized
   sized_length y = eqb-true _ _ (and_right (leb header (length bytes)) _ y)
+
+  pub row_within : (i : ℕ) → is_sized header size bytes ≡ true → i < two_bytes bytes 2 → header + size * i + size ≤ length bytes
+  row_within i y l =
+      let more : suc i ≤ two_bytes bytes 2 = omega arith in
+      omega (arith, sized_length y, mul-suc size i, mul-le-mul_left size more)
 
   module _ {A : Type 0} (get : List ℕ → ℕ → A) (nothing : A) (i : ℕ) where
     pub row_yes : i < two_bytes bytes 2 → get bytes (header + size * i) ≡ row_in get nothing header size bytes i

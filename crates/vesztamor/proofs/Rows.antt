@@ -1,6 +1,6 @@
 -- What the exported meter rows answer and leave: a law for each way out; that a refusal writes nothing (`meter_keeps`), that a row of a server in use is
 -- that server's (`meter_row`), and that what stands past these rows stays (`meter_past`). Assumes nothing.
-use mathlib.Core.Path.{◌≡◌, refl, sym, ap, ap₂, ◌∙◌}
+use mathlib.Core.Path.{◌≡◌, refl, sym, ap₂, ◌∙◌}
 use mathlib.Core.List.{List, [], ◌∷◌, ◌++◌}
 use mathlib.Core.Option.{Option, none, some}
 use Prim.Native.Nat.{ℕ, suc, ◌+◌, ◌*◌, ◌/◌, ◌%◌, ◌<◌, ◌≤◌}
@@ -9,7 +9,7 @@ use native.Mathlib.Omega.{arith}
 use lib.Dec.{eqb}
 use lib.ListN.{length, set, drop}
 use lib.Seq.{get_or-set_other}
-use borrow.Author.Tests.{eq-eqb, ne_eqb}
+use borrow.Author.Tests.{eq-eqb}
 use Rattle.laws.specs.Loops.{join_to}
 use Rattle.laws.proofs.Cases.{split}
 use Rattle.laws.proofs.Join.{join_long}
@@ -25,7 +25,6 @@ use Rattle.model.specs.Meter.{row_of, meter_refusal}
 use Rattle.image.specs.Decoded.{decoded}
 use Rattle.meter.specs.Decided.{decided_by, decided_on, written}
 use Rattle.meter.proofs.Decided.{accepted_counted, accepted_enough, written_fits}
-use Rattle.vesztamor.specs.Exported.{refusal}
 use Rattle.vesztamor.specs.Metering.{meter_row_size, row_bytes, server_row_bytes, metered_bytes, meter_left, meter_of, meter_export}
 use Rattle.vesztamor.proofs.Keeps.{Keeps}
 
@@ -48,26 +47,17 @@ unfolding metered_bytes stored join_to
 left_by st bytes lent none e = rw (accepted_counted st lent (sym e))
 left_by st bytes lent (some n) e = refl
 
-module _ (state bytes : List ℕ) where
-  pub meter_unfit : (length bytes % meter_row_size ≡ 0 → ⊥) → meter_export state bytes ≡ refusal 0 bytes
-  unfolding meter_export
-  meter_unfit n = rw (ne_eqb (length bytes % meter_row_size) 0 n)
-
-  module _ (whole : length bytes % meter_row_size ≡ 0) where
-    pub meter_none : decoded state ≡ none → meter_export state bytes ≡ refusal 1 bytes
-    unfolding meter_export
-    meter_none e = rw (eq-eqb (length bytes % meter_row_size) 0 whole, e)
-
-    pub meter_some
-        : (st : State) → decoded state ≡ some st → (a : Answer) → a ≡ decided_on st (length bytes / meter_row_size) → (n : ℕ) → n ≡ written a
-        → meter_export state bytes ≡ record { answer = said a; bytes = metered_bytes st n bytes }
-    unfolding meter_export decided_on
-    meter_some st e a d n w = rw (w, d, eq-eqb (length bytes % meter_row_size) 0 whole, e) (left_by st bytes (length bytes / meter_row_size) _ refl)
+pub meter_some
+    : (state bytes : List ℕ) → length bytes % meter_row_size ≡ 0
+    → (st : State) → decoded state ≡ some st → (a : Answer) → a ≡ decided_on st (length bytes / meter_row_size) → (n : ℕ) → n ≡ written a
+    → meter_export state bytes ≡ record { answer = said a; bytes = metered_bytes st n bytes }
+unfolding meter_export decided_on
+meter_some state bytes whole st e a d n w = rw (w, d, eq-eqb (length bytes % meter_row_size) 0 whole, e) (left_by st bytes (length bytes / meter_row_size) _ refl)
 
 -- for the code that writes the rows: they fit, and a row is stored where it belongs
 pub rows_fit
     : (st : State) (room : ℕ) (a : Answer) → a ≡ decided_on st (room / meter_row_size) → (n : ℕ) → n ≡ written a → meter_row_size * n ≤ room
-rows_fit st room a d n w = omega (arith, w, ap written d, written_fits st (room / meter_row_size))
+rows_fit st room a d n w = omega (arith, written_fits st (room / meter_row_size) a n d w)
 
 pub row_stored
     : (l k : List ℕ) (st : State) (s : ℕ) (r : Row) → r ≡ row_of st s → k ≡ stored l (meter_row_size * s) (row_bytes r)
@@ -77,7 +67,7 @@ row_stored l k st s r e h = h ∙ ap₂ (λ at row. stored l at (row_bytes row))
 
 -- A refusal writes nothing.
 left_keeps : (r : Option ℕ) (st : State) (bytes : List ℕ) → Keeps bytes (meter_left r st bytes)
-left_keeps none st bytes e = let z : ◌≡◌ {A = ℕ} 0 1 = cc in absurd (omega arith)
+left_keeps none st bytes e = cc
 left_keeps (some n) st bytes e = refl
 
 of_keeps : (d : Option State) (bytes : List ℕ) → Keeps bytes (meter_of d bytes)
@@ -123,7 +113,7 @@ left_row none st bytes lent e fits a s l =
     moved (server_row_bytes st s) (stored bytes 0 rows) (0 + meter_row_size * s) (meter_row_size * s) (zero-add _)
     (rw (stored_first bytes rows (omega (arith, rows_long st st.tasks, accepted_enough st lent (sym e))))
     (stands_part (server_row_bytes st) meter_row_size (server_row_long st) st.tasks s (rows ++ rest) 0 l (stands_first rows rest (rows ++ rest) 0 (stands_self (rows ++ rest)))))
-left_row (some n) st bytes lent e fits a s l = let z : ◌≡◌ {A = ℕ} 0 1 = cc in absurd (omega arith)
+left_row (some n) st bytes lent e fits a s l = cc
 
 pub meter_row
     : (state bytes : List ℕ) (st : State) → decoded state ≡ some st → (meter_export state bytes).answer.0 ≡ ok → (s : ℕ) → s < st.tasks
@@ -134,6 +124,4 @@ meter_row state bytes st e a s l =
     (eqb (length bytes % meter_row_size) 0)
     (λ y. rw (y, e) (left_row (meter_refusal st (length bytes / meter_row_size)) st bytes (length bytes / meter_row_size) refl (omega arith) (rw (y, e) at a) s l))
     (λ n.
-    let q : refused ≡ ok = rw n at a in
-    let z : ◌≡◌ {A = ℕ} 0 1 = cc in
-    absurd (omega arith))
+    let q : refused ≡ ok = rw n at a in cc)

@@ -1,10 +1,8 @@
 -- What each exported function answers, and what it leaves of the bytes lent to it. A refusal leaves them as they were. Assumes nothing.
-use Rattle.std.specs.Prelude.{Bool, false, List, ◌++◌, ℕ, ◌/◌, ◌%◌, ◌^◌, eqb, length, replicate, if◌then◌else◌}
+use Rattle.std.specs.Prelude.{Bool, false, List, ◌++◌, ℕ, ◌/◌, ◌%◌, ◌^◌, eqb, length, replicate, if◌then◌else◌, Ok, Err}
 use Rattle.std.proofs.Math.Option.{Option, none, some}
 use Rattle.lent_bytes.specs.Numbers.{four}
 use Rattle.model.specs.declared.Event.{Event}
-use Rattle.model.specs.declared.FreshAnswer.{FreshAnswer}
-use Rattle.model.specs.declared.FreshAnswer.TheVariants as fresh
 use Rattle.model.specs.declared.Outcome.{Outcome}
 use Rattle.model.specs.declared.State.{State}
 use Rattle.model.specs.Sound.{sound}
@@ -12,9 +10,8 @@ use Rattle.model.specs.Step.{stepped}
 use Rattle.model.specs.Fresh.{fresh_of}
 use Rattle.model.specs.Said.{ok, refused, Saying, said, is_refused}
 use Rattle.settle.specs.Doing.{doing, said_doing}
-use Rattle.bound.specs.declared.Bounded.{Bounded}
-use Rattle.bound.specs.declared.Bounded.TheVariants as bounded
-use Rattle.bound.specs.Answer.{answer}
+use Rattle.model.specs.Verdicts.{Verdict}
+use Rattle.bound.specs.Answer.{Bounded, answer}
 use Rattle.listing.specs.Replay.{replayed, buffer_after, said_replayed}
 use Rattle.image.specs.Layout.{image_size}
 use Rattle.trace.specs.Reading.{is_event, event_of}
@@ -38,9 +35,9 @@ zeros = replicate image_size 0
 
 -- a fresh state in place of the bytes, written over zeros, so that there is 0 in every byte past its counts (rule 5.3): `ok` and 0. Memory that has not
 -- the length of a state is `refused` and 0; bytes that are no table have wrong counts, 19 (rule 5.4).
-abbrev pub fresh_left : FreshAnswer → State → List ℕ → Exported
-fresh_left fresh.Made st bytes = record { answer = (ok, 0, none); bytes = encoded st zeros }
-fresh_left (fresh.Refused n) st bytes = refusal n bytes
+abbrev pub fresh_left : Verdict → State → List ℕ → Exported
+fresh_left (Ok made) st bytes = record { answer = (ok, 0, none); bytes = encoded st zeros }
+fresh_left (Err n) st bytes = refusal n bytes
 
 unfoldable pub fresh_export : List ℕ → List ℕ → Exported
 fresh_export table bytes =
@@ -92,8 +89,8 @@ unfoldable pub bound_bytes : ℕ → ℕ → List ℕ
 bound_bytes value weighings = four (value % 2 ^ 32) ++ four (value / 2 ^ 32) ++ four weighings
 
 abbrev pub bound_left : Bounded → List ℕ → Exported
-bound_left (bounded.Bound value weighings) bytes = record { answer = (ok, bound_size, none); bytes = bound_bytes value weighings }
-bound_left (bounded.Refused n) bytes = refusal n bytes
+bound_left (Ok found) bytes = record { answer = (ok, bound_size, none); bytes = bound_bytes found.value found.weighings }
+bound_left (Err n) bytes = refusal n bytes
 
 unfoldable pub bound_export : List ℕ → ℕ → ℕ → List ℕ → Exported
 bound_export sections task allowance bytes =

@@ -1,16 +1,14 @@
 -- The tables that a caller hands over in bytes, as docs/STATE.md has them. Assumes nothing.
-use Rattle.std.specs.Prelude.{Bool, ◌&&◌, List, ℕ, ◌+◌, ◌*◌, ltb, leb, eqb, length, replicate, if◌then◌else◌}
+use Rattle.std.specs.Prelude.{Bool, ◌&&◌, List, ℕ, ◌+◌, ◌*◌, ltb, leb, eqb, length, replicate, if◌then◌else◌, Some, None}
 use Rattle.laws.specs.Loops.{set_to}
 use Rattle.lent_bytes.specs.Numbers.{byte_at, two_bytes, four_bytes}
 use Rattle.model.specs.declared.Entry.{Entry}
 use Rattle.model.specs.declared.Table.{Table}
 use Rattle.model.specs.State.{places}
 use Rattle.model.specs.Fresh.{no_entry}
-use Rattle.bound.specs.declared.Parent.{Parent}
-use Rattle.bound.specs.declared.Parent.TheVariants.{Outermost, Inside}
 use Rattle.bound.specs.declared.Section.{Section}
 use Rattle.bound.specs.declared.Sections.{Sections}
-use Rattle.bound.specs.Table.{no_section}
+use Rattle.bound.specs.Table.{Parent, no_section}
 use Rattle.trace.specs.Reading.{entry_in}
 
 -- a header, then rows of one size, as many as the header's second number says, and no more
@@ -42,7 +40,7 @@ is_sections bytes = is_sized 4 9 bytes
 
 -- 255 for a section that stands in none
 abbrev pub parent_of : ℕ → Parent
-parent_of b = if eqb b 255 then Outermost else Inside b
+parent_of b = if eqb b 255 then None else Some b
 
 -- task, resource, length and parent
 unfoldable pub section_in : List ℕ → ℕ → Section

@@ -1,12 +1,13 @@
 // Answers as one number: the word's number in bits 56 to 63, what follows in bits 32 to 55, the number in bits 0 to 31. Assumes nothing.
 ghost use Rattle.std.specs.Prelude.{◌≡◌};
 ghost use Rattle.std.proofs.Math.Option.{none};
+ghost use Rattle.model.specs.Refusals.{refusal_no};
 ghost use Rattle.model.specs.Said.{refused, said, is_refused};
 ghost use Rattle.settle.specs.Doing.{said_doing};
 ghost use Rattle.vesztamor.specs.Packed.{packed};
 ghost use Rattle.vesztamor.specs.Exported.{doing_told};
 
-use model::Answer;
+use model::{Answer, Refusal};
 use settle::Doing;
 
 // 2 ^ 56, where the word stands
@@ -32,51 +33,50 @@ const REFUSED: u64 = 7 * WORD;
 // the refusal that a resource follows
 const WAITING: u64 = 62;
 
-pub fn refusal(n: u16) -> u64
-    ensures { result ≡ packed (refused, n, none) }
+// memory of another length than was asked for: 0, which is the number of no refusal
+const UNFIT: u64 = REFUSED;
+
+pub fn unfit() -> u64
+    ensures { result ≡ packed (refused, 0, none) }
 {
-    REFUSED + n as u64
+    UNFIT
+}
+
+pub fn refused(refusal: Refusal) -> u64
+    ensures { result ≡ packed (refused, refusal_no refusal, none) }
+{
+    REFUSED + u64::from(u16::from(refusal))
 }
 
 pub fn step_answer(answer: Answer) -> u64
     ensures { result ≡ packed (said answer) }
 {
     match answer {
-        Answer::Ok(n) => n as u64,
-        Answer::Executes(t) => EXECUTES + t.0 as u64,
-        Answer::Spins(t) => SPINS + t.0 as u64,
-        Answer::Granted(r) => GRANTED + r as u64,
-        Answer::Waits(t) => WAITS + t.0 as u64,
-        Answer::Passed(t) => PASSED + t.0 as u64,
-        Answer::Freed(r) => FREED + r as u64,
-        Answer::Refused(n) => refusal(n),
+        Answer::Ok(n) => u64::from(n),
+        Answer::Executes(t) => EXECUTES + u64::from(t.0),
+        Answer::Spins(t) => SPINS + u64::from(t.0),
+        Answer::Granted(r) => GRANTED + u64::from(r),
+        Answer::Waits(t) => WAITS + u64::from(t.0),
+        Answer::Passed(t) => PASSED + u64::from(t.0),
+        Answer::Freed(r) => FREED + u64::from(r),
+        Answer::Refused(n) => REFUSED + u64::from(n),
         // one more than the resource, since 0 says that nothing follows
-        Answer::RefusedWaiting(r) => REFUSED + (r as u64 + 1) * FURTHER + WAITING,
+        Answer::RefusedWaiting(r) => REFUSED + (u64::from(r) + 1) * FURTHER + WAITING,
     }
 }
 
 pub fn is_refused(answer: Answer) -> bool
     ensures { result ≡ is_refused answer }
 {
-    match answer {
-        Answer::Ok(_) => false,
-        Answer::Executes(_) => false,
-        Answer::Spins(_) => false,
-        Answer::Granted(_) => false,
-        Answer::Waits(_) => false,
-        Answer::Passed(_) => false,
-        Answer::Freed(_) => false,
-        Answer::Refused(_) => true,
-        Answer::RefusedWaiting(_) => true,
-    }
+    matches!(answer, Answer::Refused(_) | Answer::RefusedWaiting(_))
 }
 
 pub fn doing_answer(doing: Doing) -> u64
     ensures { result ≡ packed (doing_told (said_doing doing)) }
 {
     match doing {
-        Doing::Executes(t) => EXECUTES + t.0 as u64,
-        Doing::Spins(t) => SPINS + t.0 as u64,
+        Doing::Executes(t) => EXECUTES + u64::from(t.0),
+        Doing::Spins(t) => SPINS + u64::from(t.0),
         Doing::NotRunning => 0,
     }
 }

@@ -8,6 +8,7 @@ pub mod layouts;
 pub mod metering;
 pub mod replaying;
 mod sections;
+mod sized;
 mod sound;
 pub mod states;
 pub mod stepping;

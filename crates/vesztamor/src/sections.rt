@@ -1,87 +1,71 @@
 // Tables of sections that a caller hands over in bytes. Assumes nothing but what each function says.
 ghost use Rattle.std.specs.Prelude.{◌≡◌, true, ◌+◌, ◌≤◌, length};
+ghost use Rattle.std.proofs.Common.{rules};
 ghost use Rattle.bound.specs.Table.{no_section};
-ghost use Rattle.vesztamor.specs.Tables.{is_sections, parent_of, section_in, section_of, sections_in};
+ghost use Rattle.vesztamor.specs.Tables.{is_sections, parent_of, section_in, sections_in};
 
-use bound::{Parent, Section, Sections};
+use crate::sized::{Row, is_sized, rows_in};
+use bound::{NO_SECTION, Section, Sections};
 use lent_bytes::numbers::{four_bytes, two_bytes};
 use model::TaskNo;
 
-pub fn is_sections(bytes: &[u8]) -> bool
-    ensures { result ≡ is_sections bytes.now }
-{
-    if bytes.len() < 4 {
-        return false;
-    }
-    let count = two_bytes(bytes, 2) as usize;
-    bytes.len() == 4 + 9 * count
-}
-
-fn parent_of(b: u8) -> Parent
+fn parent_of(b: u8) -> Option<u16>
     ensures { result ≡ parent_of b }
 {
-    if b == 255 {
-        Parent::Outermost
-    } else {
-        Parent::Inside(b as u16)
-    }
+    (b != 255).then_some(u16::from(b))
 }
 
+#[tactic(auto, unfolding(crate::specs::Tables::section_in))]
 fn section_in(bytes: &[u8], at: usize) -> Section
     requires { at + 9 ≤ length bytes.now }
     ensures { result ≡ section_in bytes.now at }
 {
-    let task = TaskNo(two_bytes(bytes, at));
-    let resource = two_bytes(bytes, at + 2);
-    let length = four_bytes(bytes, at + 4);
-    let byte = bytes[at + 8];
-    let parent = parent_of(byte);
     Section {
-        task,
-        resource,
-        length,
-        parent,
+        task: TaskNo(two_bytes(bytes, at)),
+        resource: two_bytes(bytes, at + 2),
+        length: four_bytes(bytes, at + 4),
+        parent: parent_of(bytes[at + 8]),
     }
 }
 
-// Section i, or nothing past the count.
-fn section_of(bytes: &[u8], i: usize) -> Section
-    requires { is_sections bytes.now ≡ true }
-    ensures { result ≡ section_of bytes.now i }
+impl Row for Section {
+    ghost HEADER = { 4 };
+
+    ghost SIZE = { 9 };
+
+    const HEADER: usize = 4;
+
+    const SIZE: usize = 9;
+
+    ghost read_at = { section_in };
+
+    ghost nothing = { no_section };
+
+    fn nothing() -> Section {
+        NO_SECTION
+    }
+
+    fn read(bytes: &[u8], at: usize) -> Section {
+        section_in(bytes, at)
+    }
+
+    ghost sizes = { Prim.search rules };
+}
+
+pub fn is_sections(bytes: &[u8]) -> bool
+    ensures { result ≡ is_sections bytes.now }
 {
-    let count = two_bytes(bytes, 2) as usize;
-    if i < count {
-        section_in(bytes, 4 + 9 * i)
-    } else {
-        no_section()
-    }
+    is_sized::<Section>(bytes)
 }
 
-fn no_section() -> Section
-    ensures { result ≡ no_section }
-{
-    Section {
-        task: TaskNo(0),
-        resource: 0,
-        length: 0,
-        parent: Parent::Outermost,
-    }
-}
-
+#[tactic(auto, using(crate::proofs::Lines::sized_least), unfolding(crate::specs::Tables::sections_in))]
 pub fn sections_in(bytes: &[u8]) -> Sections
     requires { is_sections bytes.now ≡ true }
     ensures { result ≡ sections_in bytes.now }
 {
-    let tasks = two_bytes(bytes, 0);
-    let count = two_bytes(bytes, 2);
-    let none = no_section();
-    let mut section = [none; 12];
-    for i in 0..12usize {
-        section[i] = section_of(bytes, i);
-    }
     Sections {
-        tasks,
-        count,
-        section,
+        tasks: two_bytes(bytes, 0),
+        count: two_bytes(bytes, 2),
+        section: rows_in(bytes),
     }
 }

@@ -1,61 +1,53 @@
 // Tables that a caller hands over in bytes. Assumes nothing but what each function says.
 ghost use Rattle.std.specs.Prelude.{◌≡◌, true};
 ghost use Rattle.model.specs.Fresh.{no_entry};
-ghost use Rattle.vesztamor.specs.Tables.{is_table, line_in, table_in};
+ghost use Rattle.trace.specs.Reading.{entry_in};
+ghost use Rattle.std.proofs.Common.{rules};
+ghost use Rattle.vesztamor.specs.Tables.{is_table, table_in};
 
+use crate::sized::{Row, is_sized, rows_in};
 use lent_bytes::numbers::two_bytes;
 use model::{Entry, Table};
-use trace::lines::entry_in;
 
-fn no_entry() -> Entry
-    ensures { result ≡ no_entry }
-{
-    Entry {
-        quota: 0,
-        period: 0,
-        declared: 0,
+impl Row for Entry {
+    ghost HEADER = { 6 };
+
+    ghost SIZE = { 10 };
+
+    const HEADER: usize = 6;
+
+    const SIZE: usize = 10;
+
+    ghost read_at = { entry_in };
+
+    ghost nothing = { no_entry };
+
+    fn nothing() -> Entry {
+        model::limits::no_entry()
     }
+
+    fn read(bytes: &[u8], at: usize) -> Entry {
+        trace::lines::entry_in(bytes, at)
+    }
+
+    ghost sizes = { Prim.search rules };
 }
 
 pub fn is_table(bytes: &[u8]) -> bool
     ensures { result ≡ is_table bytes.now }
 {
-    if bytes.len() < 6 {
-        return false;
-    }
-    let tasks = two_bytes(bytes, 2) as usize;
-    bytes.len() == 6 + 10 * tasks
+    is_sized::<Entry>(bytes)
 }
 
-// The line of task t, or nothing past the tasks.
-fn line_in(bytes: &[u8], t: usize) -> Entry
-    requires { is_table bytes.now ≡ true }
-    ensures { result ≡ line_in bytes.now t }
-{
-    let tasks = two_bytes(bytes, 2) as usize;
-    if t < tasks {
-        entry_in(bytes, 6 + 10 * t)
-    } else {
-        no_entry()
-    }
-}
-
+#[tactic(auto, using(crate::proofs::Lines::sized_least), unfolding(crate::specs::Tables::table_in))]
 pub fn table_in(bytes: &[u8]) -> Table
     requires { is_table bytes.now ≡ true }
     ensures { result ≡ table_in bytes.now }
 {
-    let processors = two_bytes(bytes, 0);
-    let tasks = two_bytes(bytes, 2);
-    let resources = two_bytes(bytes, 4);
-    let none = no_entry();
-    let mut entry = [none; 16];
-    for t in 0..16usize {
-        entry[t] = line_in(bytes, t);
-    }
     Table {
-        processors,
-        tasks,
-        resources,
-        entry,
+        processors: two_bytes(bytes, 0),
+        tasks: two_bytes(bytes, 2),
+        resources: two_bytes(bytes, 4),
+        entry: rows_in(bytes),
     }
 }

@@ -21,9 +21,11 @@ module _ (n : ℕ) (file : List ℕ) (w : n ≤ length file) where
   room_whole out s l = omega (arith, buffers_enough (length (take n file)) (omega (arith, read_long, w)))
 
 pub print-requires : goal.print-requires
-print-requires c = room_short _ _ c.in-Whole.ensures _ (omega arith) c.short_text_buffer-out.ensures.long
+unfolding room
+print-requires c = room_short _ _ (c.in-Ok.ensures) _ (omega arith) c.buffer.ensures.long
 
-pub print-requires-2 : goal.print-requires-2
-print-requires-2 c =
-    let long : length c.read_all.new.file ≡ file_bytes = omega (arith, c.read_all.auto.file, c.file_buffer-file.ensures.long) in
-    room_whole _ _ c.in-Whole.ensures _ long c.text_buffer-out.ensures.long
+pub print-requires-else-n-le-SHORT_FILE : goal.print-requires-else-n-le-SHORT_FILE
+unfolding room
+print-requires-else-n-le-SHORT_FILE c =
+    let long : length c.read_all.new.file ≡ file_bytes = omega (arith, c.read_all.auto.file, c.buffer-file.ensures.long) in
+    room_whole _ _ (c.in-Ok.ensures) _ long c.buffer-else-n-le-SHORT_FILE.ensures.long

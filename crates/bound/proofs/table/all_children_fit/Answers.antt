@@ -1,12 +1,9 @@
 -- `bound::table::all_children_fit` meets its contract. Assumes nothing.
-use native.Mathlib.Omega.{arith}
-use Rattle.laws.proofs.All.{all_none, all_turn}
+use Rattle.std.proofs.Common.{rules}
+use Rattle.laws.proofs.All.{all_checked}
+use Rattle.bound.specs.Table.{children_fit}
 use Rattle.bound.proofs.table.all_children_fit.Goals as goal
 
-pub loop-i-init : goal.loop-i-init
-loop-i-init c =
-    (omega arith, all_none _)
-
-pub loop-i-preserved : goal.loop-i-preserved
-loop-i-preserved c =
-    (omega arith, all_turn _ _ _ _ c.children_fit-fit.ensures c.loop-i.invariant.1)
+pub returns : goal.returns
+returns c =
+    all_checked c.args.s.now.count (children_fit c.args.s.now) c.all.ensures.ran (λ x q k. search rules) (λ x q k. search rules)

@@ -1,5 +1,4 @@
 -- `chain::walk::chain_end` meets its contract. Assumes nothing.
-use borrow.Author.Rules.{rules}
 use Rattle.chain.proofs.Arrays.{owners_read, walk_end}
 use Rattle.chain.proofs.walk.chain_end.Goals as goal
 

@@ -1,6 +1,5 @@
 -- `chain::walk::chain_ends` meets its contract. Assumes nothing.
 use mathlib.Core.Path.{◌∙◌}
-use borrow.Author.Rules.{rules}
 use Rattle.chain.proofs.Arrays.{owners_read, ends_are}
 use Rattle.chain.proofs.walk.chain_ends.Goals as goal
 

@@ -1,8 +1,6 @@
 -- `events::acting::stall` meets its contract. A return for each mode. Assumes nothing.
-use mathlib.Core.Path.{ap}
-use mathlib.Core.Bool.{not}
 use Rattle.laws.specs.Tests.{first_of}
-use Rattle.events.proofs.Refusals.{last_test}
+use Rattle.events.proofs.Refusals.{last_told, is_none_not}
 use Rattle.events.proofs.acting.stall.Goals as goal
 
 pub returns-in-Suspended : goal.returns-in-Suspended
@@ -13,7 +11,7 @@ returns-in-Suspended c =
 pub returns-in-Ready : goal.returns-in-Ready
 unfolding first_of
 returns-in-Ready c =
-    rw c.in-Ready.is (last_test 63 _ _ _ c.refused_if.ensures (ap not c.is_placed.ensures))
+    rw c.in-Ready.is (last_told _ _ _ _ c.refused_if.ensures (is_none_not _ _ c.is_none.ensures))
 
 pub returns-in-Waiting : goal.returns-in-Waiting
 unfolding first_of

@@ -1,4 +1,6 @@
 -- `events::servers::phased` meets its contract. Assumes nothing.
+use mathlib.Core.Path.{◌∙◌}
+use Rattle.laws.proofs.Count.{bit_byte}
 use Rattle.model.proofs.Chain.{here_below}
 use Rattle.chain.proofs.Arrays.{end_below}
 use Rattle.events.proofs.Changes.{phased_does}
@@ -22,4 +24,4 @@ bounds-st-i-2 c =
 
 pub returns : goal.returns
 returns c =
-    phased_does _ _ _ _ _ _ _ (here_below _ _ c.requires) c.chain_ends-ends.ensures c.executor_in-executor.ensures c.one_if.ensures c.with_phase.ensures
+    phased_does _ _ _ _ _ _ _ (here_below _ _ c.requires) c.chain_ends-ends.ensures c.executor_in-executor.ensures (c.from.ensures ∙ bit_byte _) c.with_phase.ensures

@@ -1,4 +1,6 @@
 -- `events::servers::recharged` meets its contract. Assumes nothing.
+use mathlib.Core.Path.{◌∙◌}
+use Rattle.laws.proofs.Count.{bit_byte}
 use Rattle.model.specs.declared.Event.TheVariants.{Recharge}
 use Rattle.model.proofs.Chain.{here_below}
 use Rattle.chain.proofs.Arrays.{end_below}
@@ -32,4 +34,4 @@ bounds-st-i-3 c =
 
 pub returns : goal.returns
 returns c =
-    recharged_does _ _ _ _ _ _ _ (here_below _ _ (clear_grounds _ (Recharge _) c.requires).0) c.chain_ends-ends.ensures c.recharged_phase.ensures c.refilled.ensures c.is_active.ensures c.one_if.ensures
+    recharged_does _ _ _ _ _ _ _ (here_below _ _ (clear_grounds _ (Recharge _) c.requires).0) c.chain_ends-ends.ensures c.recharged_phase-phase.ensures c.refilled.ensures c.is_active.ensures (c.from.ensures ∙ bit_byte _)

@@ -1,5 +1,6 @@
 -- `events::spending::spent_servers` meets its contract. Assumes nothing.
 use mathlib.Core.Path.{sym, ◌∙◌}
+use Rattle.laws.proofs.Count.{bit_byte}
 use Rattle.model.specs.State.{here}
 use Rattle.chain.proofs.Arrays.{end_served, end_below}
 use Rattle.events.proofs.Turns.{counting_none, counting_more, counting_skip, counting_done, executes_here}
@@ -12,9 +13,9 @@ unfolding here
 loop-s-init c =
     counting_none
 
-pub bounds-served-end : goal.bounds-served-end
+pub bounds-st-end : goal.bounds-st-end
 unfolding here
-bounds-served-end c =
+bounds-st-end c =
     end_below _ _ _ c.requires.ends_value c.loop-s-test.true
 
 pub spent_server-requires : goal.spent_server-requires
@@ -33,8 +34,8 @@ loop-s-preserved c =
     let end = end_served _ _ _ c.requires.ends_value c.loop-s-test.true in
     elim c.if-in_use.branch [
       | then-in_use w ↦ let here = used ∙ w.if-in_use.true in
-          let executing = w.both-executes.ensures ∙ executes_here _ _ _ _ _ here end w.is_running.ensures w.executor_in-executor.ensures in
-          counting_more c.loop-s-test.true c.loop-s.invariant here w.servers-is (spent_here _ _ _ _ _ _ here end executing w.spent_server.ensures) w.count-is w.one_if-count.ensures (out_here _ _ _ _ here w.runs_out.ensures)
+          let executing = executes_here _ _ _ _ _ here end w.is_running.ensures w.executor_in-executor.ensures in
+          counting_more c.loop-s-test.true c.loop-s.invariant here w.servers-is (spent_here _ _ _ _ _ _ here end executing w.spent_server.ensures) w.count-is (w.from-count.ensures ∙ bit_byte _) (out_here _ _ _ _ here w.runs_out.ensures)
       | else-in_use w ↦ counting_skip c.loop-s-test.true c.loop-s.invariant (used ∙ w.if-in_use.false) w.servers-is w.count-is (out_past _ _ _ (used ∙ w.if-in_use.false))
     ]
 

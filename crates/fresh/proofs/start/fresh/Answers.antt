@@ -1,13 +1,18 @@
 -- `fresh::start::fresh` meets its contract. Assumes nothing.
 use mathlib.Core.Path.{sym, ◌∙◌}
-use borrow.Author.Rules.{rules}
-use Rattle.fresh.proofs.Answers.{fresh_made, fresh_refused}
+use Rattle.fresh.proofs.Answers.{answer_is, state_made, state_refused}
 use Rattle.fresh.proofs.start.fresh.Goals as goal
 
-pub returns-in-Made : goal.returns-in-Made
-returns-in-Made c =
-    fresh_made _ _ (sym c.in-Made.is ∙ c.table_answer-answer.ensures) c.fresh_state-state.ensures
+pub returns-then-is_ok-clause-answer : goal.returns-then-is_ok-clause-answer
+returns-then-is_ok-clause-answer c = answer_is _ _ c.table_test-answer.ensures
 
-pub returns-in-Refused : goal.returns-in-Refused
-returns-in-Refused c =
-    fresh_refused _ _ _ (sym c.in-Refused.is ∙ c.table_answer-answer.ensures) c.unusable_state-state.ensures
+pub returns-then-is_ok-clause-state : goal.returns-then-is_ok-clause-state
+returns-then-is_ok-clause-state c =
+    c.fresh_state-state.ensures ∙ state_made _ _ c.table_test-answer.ensures (sym c.is_ok.ensures.value ∙ c.if-is_ok.true)
+
+pub returns-else-is_ok-clause-answer : goal.returns-else-is_ok-clause-answer
+returns-else-is_ok-clause-answer c = answer_is _ _ c.table_test-answer.ensures
+
+pub returns-else-is_ok-clause-state : goal.returns-else-is_ok-clause-state
+returns-else-is_ok-clause-state c =
+    c.unusable_state-state.ensures ∙ state_refused _ _ c.table_test-answer.ensures (sym c.is_ok.ensures.value ∙ c.if-is_ok.false)

@@ -13,10 +13,10 @@ abbrev pub Filling : ℕ → (ℕ → List ℕ) → List ℕ → ℕ → List �
 Filling n part l at m i = (n ≤ 16) × (length l ≡ 1802) × Filled n part l at m i
 
 abbrev pub invariant-loop-i : goal.invariant-loop-i
-invariant-loop-i l = Filling l.tasks_used (entry_bytes server_bytes no_server l.st.server) l.initial.bytes 10 l.bytes l.i
+invariant-loop-i l = Filling l.tasks_used (entry_bytes server_bytes no_server l.fn.st.server) l.initial.bytes 10 l.bytes l.i
 
 abbrev pub invariant-loop-i-2 : goal.invariant-loop-i-2
-invariant-loop-i-2 l = Filling l.tasks_used (entry_bytes task_bytes no_task l.st.task) l.initial.bytes 474 l.bytes l.i
+invariant-loop-i-2 l = Filling l.tasks_used (entry_bytes task_bytes no_task l.fn.st.task) l.initial.bytes 474 l.bytes l.i
 
 abbrev pub invariant-loop-i-3 : goal.invariant-loop-i-3
-invariant-loop-i-3 l = Filling l.resources_used (entry_bytes resource_bytes no_resource l.st.resource) l.initial.bytes 1210 l.bytes l.i
+invariant-loop-i-3 l = Filling l.resources_used (entry_bytes resource_bytes no_resource l.fn.st.resource) l.initial.bytes 1210 l.bytes l.i

@@ -1,9 +1,7 @@
 -- `lent_bytes::numbers::four_bytes` meets its contract. Assumes nothing.
-use native.Mathlib.Omega.{arith}
-use Rattle.lent_bytes.specs.Numbers.{four_bytes}
+use mathlib.Core.Path.{◌∙◌}
+use Rattle.lent_bytes.proofs.Endian.{four_read}
 use Rattle.lent_bytes.proofs.numbers.four_bytes.Goals as goal
 
 pub returns : goal.returns
-unfolding four_bytes
-returns c =
-    omega (arith, c.two_bytes-high.ensures, c.two_bytes-low.ensures)
+returns c = c.from_le_bytes.ensures ∙ four_read c.args.bytes.now c.args.at

@@ -11,8 +11,8 @@ pub returns-then-not-is_running : goal.returns-then-not-is_running
 returns-then-not-is_running c =
     and_said _ _ (doing_off _ _ (sym c.is_running.ensures ∙ c.if-not-is_running.true))
 
-pub bounds-st-t : goal.bounds-st-t
-bounds-st-t c =
+pub bounds-st-end : goal.bounds-st-end
+bounds-st-end c =
     end_below _ _ (sym c.in_use.ensures ∙ c.if-not-in_use.false) _ c.chain_end-end.ensures
 
 pub returns-then-executor-s : goal.returns-then-executor-s

@@ -12,4 +12,4 @@ returns c =
     let w1 = next w0 _ _ c.put_four.ensures (four_long _) refl in
     let w2 = next w1 _ _ c.put_four-2.ensures (four_long _) refl in
     let w3 = next w2 _ _ c.put_four-3.ensures (four_long _) refl in
-    rw (← c.phase_number.ensures) (next w3 _ _ c.put_four-4.ensures (four_long _) refl).done
+    rw (← c.phase_tag.ensures) (next w3 _ _ c.put_four-4.ensures (four_long _) refl).done

@@ -9,7 +9,7 @@ loop-s-init c = filled_none _ _ _ _
 
 pub loop-s-preserved : goal.loop-s-preserved
 loop-s-preserved c =
-    filled_more 17 (server_row_long _) c.loop-s.invariant c.loop-s-test.true _ (row_stored _ _ _ _ _ c.row_of-row.ensures c.put_row.ensures)
+    filled_more 17 (server_row_long _) c.loop-s.invariant c.loop-s-test.true _ (row_stored _ _ _ _ _ c.row_of-row.ensures (rw c.from.ensures at c.put_row.ensures))
 
 pub returns : goal.returns
 unfolding metered_bytes

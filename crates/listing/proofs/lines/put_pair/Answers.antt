@@ -1,7 +1,0 @@
--- `listing::lines::put_pair` meets its contract. Assumes nothing.
-use Rattle.lent_bytes.proofs.Writing.{wrote_then}
-use Rattle.listing.proofs.lines.put_pair.Goals as goal
-
-pub returns : goal.returns
-returns c =
-    wrote_then c.put_field-next.ensures c.put_field.ensures
