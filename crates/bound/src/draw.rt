@@ -19,6 +19,7 @@ impl Span {
         requires { i < section_numbers }
         ensures { result ≡ widened self i }
     {
+        let i = i as u8;
         Span {
             from: if self.end == 0 { i } else { self.from },
             end: i + 1,

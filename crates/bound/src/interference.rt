@@ -131,7 +131,7 @@ impl Drawing {
     {
         let span = self.spans[draw::on_span(task, resource)];
         let mut best = Tally::nothing(allowance);
-        for i in span.from..span.end {
+        for i in span.from as usize..span.end as usize {
             let weighed = self.weigh(reach, held, resource, task, i, best.left)?;
             best = if best.value < weighed.value {
                 Tally {
@@ -286,7 +286,7 @@ impl Drawing {
             return Some(sum);
         }
         let span = self.spans[draw::in_span(parent)];
-        for c in span.from..span.end {
+        for c in span.from as usize..span.end as usize {
             let added = self.sum_over(reach, task, parent, r, c, sum.left)?;
             sum = Tally {
                 value: sum.value + added.value,

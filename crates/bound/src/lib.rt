@@ -56,11 +56,12 @@ pub(crate) struct Resources {
     pub bits: u16,
 }
 
-// Where the sections stand that a calculation goes over: the first number and the end of the numbers.
+// Where the sections stand that a calculation goes over: the first number and the end of the numbers. In a byte each, since a drawing has 109 of them on the
+// stack, and is handed over once.
 #[derive(Clone, Copy)]
 pub(crate) struct Span {
-    pub from: usize,
-    pub end: usize,
+    pub from: u8,
+    pub end: u8,
 }
 
 // A value, the section that gave it if one did, and the allowance left. None in place of a tally says that the weighings exceeded the allowance.

@@ -1,5 +1,5 @@
 -- A refusal against a number, and a turn of the search for its line. Assumes nothing.
-use Rattle.std.specs.Prelude.{if◌then◌else◌, Some}
+use Rattle.std.specs.Prelude.{if◌then◌else◌}
 use mathlib.Core.Path.{◌≡◌, sym, ap, ◌∙◌}
 use mathlib.Core.Bool.{Bool, true, false}
 use mathlib.Core.Option.{none, some}
@@ -10,7 +10,7 @@ use lib.Dec.{eqb}
 use lib.ListN.{get_or}
 use Rattle.bound.specs.Table.{table_refusal}
 use Rattle.bound_text.specs.declared.Reading.{Reading}
-use Rattle.bound_text.specs.Faults.{table_to, is_refused, line_from, faulty_line}
+use Rattle.bound_text.specs.Faults.{table_to, is_refused, line_read, line_from, faulty_line}
 
 module _ (r : Reading) (number count : ℕ) where
   pub passes : table_refusal (table_to r count) ≡ none → false ≡ is_refused r number count
@@ -31,11 +31,11 @@ module _ (r : Reading) (number : ℕ) where
   search_begins b e y = rw (← e, y)
 
   module _ (i : ℕ) (b : Bool) (e : b ≡ is_refused r number (i + 1)) where
-    opened : i < 12 → line_from r number (12 - i) i ≡ (if b then Some (get_or r.lines i 0) else line_from r number (12 - (i + 1)) (i + 1))
+    opened : i < 12 → line_from r number (12 - i) i ≡ (if b then line_read (get_or r.lines i 0) else line_from r number (12 - (i + 1)) (i + 1))
     unfolding line_from
     opened l = ap (λ k. line_from r number k i) (let d : 12 - i ≡ suc (12 - (i + 1)) = omega arith in d) ∙ rw (e, add-one)
 
-    pub line_told : i < 12 → b ≡ true → Some (get_or r.lines i 0) ≡ line_from r number (12 - i) i
+    pub line_told : i < 12 → b ≡ true → line_read (get_or r.lines i 0) ≡ line_from r number (12 - i) i
     line_told l y = sym (opened l ∙ rw y)
 
     pub search_goes : i < 12 → b ≡ false → line_from r number (12 - (i + 1)) (i + 1) ≡ line_from r number (12 - i) i

@@ -2,10 +2,10 @@
 ghost use Rattle.std.specs.Prelude.{◌≡◌, ◌<◌};
 ghost use Rattle.bound_text.specs.Lines.{no_line, unclear, appended, opened, longer, with_digit, with_dash, with_byte};
 
-use crate::{FIELDS, Line};
+use crate::{FIELDS, GREATEST, Line};
 
 // The tenth of the greatest number: below it there is room for a digit more.
-const TENTH: u32 = u32::MAX / 10;
+const TENTH: u32 = GREATEST / 10;
 
 // A number with one digit more, or the greatest number that there is. Not by saturating_mul: `Lines.appended`, which the format promises, takes every
 // number from the tenth on for the greatest.
@@ -16,7 +16,7 @@ fn appended(number: u32, digit: u32) -> u32
     if number < TENTH {
         number * 10 + digit
     } else {
-        u32::MAX
+        GREATEST
     }
 }
 

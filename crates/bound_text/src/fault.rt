@@ -1,6 +1,6 @@
 // The table that a text was read as, and the line at which it is refused. Assumes nothing.
 ghost use Rattle.std.specs.Prelude.{◌≡◌};
-ghost use Rattle.bound_text.specs.Faults.{table_to, is_refused, faulty_line};
+ghost use Rattle.bound_text.specs.Faults.{table_to, is_refused, line_read, faulty_line};
 
 use crate::Reading;
 use bound::{Sections, table};
@@ -28,6 +28,13 @@ fn is_refused(reading: Reading, number: u16, count: u16) -> bool
     }
 }
 
+// The line of a section's place. Where no section was read it has 0, which is the number of no line.
+fn line_read(line: u32) -> Option<u32>
+    ensures { result ≡ line_read line }
+{
+    (line != 0).then_some(line)
+}
+
 // The line for which a table is refused with the number: that of the number of tasks, of the first section with which it is, or of the
 // thirteenth.
 pub fn faulty_line(reading: Reading, number: u16) -> Option<u32>
@@ -38,7 +45,7 @@ pub fn faulty_line(reading: Reading, number: u16) -> Option<u32>
     }
     for (i, line) in reading.lines.iter().enumerate() {
         if is_refused(reading, number, i as u16 + 1) {
-            return Some(*line);
+            return line_read(*line);
         }
     }
     reading.surplus

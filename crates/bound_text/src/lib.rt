@@ -11,6 +11,11 @@ pub mod read;
 // The fields of a section's line.
 pub const FIELDS: usize = 4;
 
+// The greatest numbers of 32 and of 16 bits: a greater one counts as these.
+pub const GREATEST: u32 = u32::MAX;
+
+pub const GREATEST_SHORT: u16 = u16::MAX;
+
 // What a line has shown so far: how many fields and their numbers, whether the last byte stands in a number, whether the last field is a dash,
 // whether the line is understood, and whether a comment has begun. The numbers stand in an array with their count beside it, since there is no heap.
 #[derive(Clone, Copy)]

@@ -2,7 +2,7 @@
 ghost use Rattle.std.specs.Prelude.{◌≡◌};
 ghost use Rattle.bound_text.specs.Readings.{no_reading, short, parent_said, section_said, lost, advanced, with_tasks, with_section, ended, taken, read_from, number_from};
 
-use crate::{Line, Reading, State};
+use crate::{GREATEST_SHORT, Line, Reading, State};
 use bound::{NO_SECTION, SECTIONS, Section};
 use model::TaskNo;
 
@@ -10,7 +10,7 @@ use model::TaskNo;
 fn short(number: u32) -> u16
     ensures { result ≡ short number }
 {
-    u16::try_from(number).unwrap_or(u16::MAX)
+    u16::try_from(number).unwrap_or(GREATEST_SHORT)
 }
 
 impl Line {

@@ -6,8 +6,8 @@ use mathlib.Core.List.{List, ◌++◌}
 use Prim.Native.Nat.{ℕ, ◌+◌, ◌-◌, ◌<◌, ◌≤◌}
 use native.Mathlib.Omega.{arith}
 use lib.Dec.{ltb, eqb}
-use lib.ListN.{length, get_or, set, take, drop, length-set, length-append, get_or-eq_default}
-use Rattle.std.proofs.lemmas.List.{ext_get_or, get_or-take, get_or-drop, get_or_append_left, get_or-append_right, length-drop}
+use lib.ListN.{length, get_or, set, drop, length-set, length-append, get_or-eq_default}
+use Rattle.std.proofs.lemmas.List.{ext_get_or, get_or-drop, get_or_append_left, get_or-append_right, length-drop}
 use lib.Seq.{get_or-set_same, get_or-set_other}
 use borrow.Author.Tests.{eqb-true, eqb-false, eq-eqb, ne_eqb, ltb-true, ltb-false}
 use Rattle.laws.specs.Tests.{bit}
@@ -239,60 +239,44 @@ elapsed_does st n ends x ts e ex et =
     counts : x.count ≡ (spent_servers st n).count
     counts = ap (λ y. y.count) ex
 
--- Unlock: the places in use of a queue, turned by one, with what stood first given up, are the queue moved on
-module _ (queue turned : List TaskNo) (w : ℕ) (long : length queue ≡ 16) (some : 0 < w) (most : w ≤ 16) where
+-- Unlock: a queue whose first places are those after the first, with the last in use given up, is the queue moved on
+module _ (queue part : List TaskNo) (last : ℕ) (long : length queue ≡ 16) (inside : last < 16) where
   abbrev nought : TaskNo
   nought = record { 0 = 0 }
 
-  module _ (same : length turned ≡ w) (next : (k : ℕ) (d : TaskNo) → k + 1 < w → get_or turned k d ≡ get_or (take w queue) (k + 1) d) where
-    whole : length (turned ++ drop w queue) ≡ 16
-    whole = omega (arith, length-append turned (drop w queue), length-drop w queue, same, long)
+  module _ (same : length part ≡ last) (next : (k : ℕ) (d : TaskNo) → k < last → get_or part k d ≡ get_or queue (k + 1) d) where
+    whole : length (part ++ drop last queue) ≡ 16
+    whole = omega (arith, length-append part (drop last queue), length-drop last queue, same, long)
 
     abbrev moved : List TaskNo
-    moved = set_to (w - 1) (next_in_queue queue) queue
+    moved = set_to last (next_in_queue queue) queue
 
     sixteen : length moved ≡ 16
-    sixteen = length_set_to (w - 1) (next_in_queue queue) queue ∙ long
+    sixteen = length_set_to last (next_in_queue queue) queue ∙ long
 
-    place : (i : ℕ) → i < 16 → (i ≡ w - 1 → ⊥) → get_or (turned ++ drop w queue) i nought ≡ get_or moved i nought
+    place : (i : ℕ) → get_or (part ++ drop last queue) i nought ≡ get_or moved i nought
     unfolding next_in_queue
-    place i l n =
+    place i =
         split
-        (ltb i (w - 1))
+        (ltb i last)
         (λ y.
-        let b = ltb-true i (w - 1) y in
-        get_or_append_left turned (drop w queue) nought i (omega (arith, same))
-        ∙ next i nought (omega arith)
-        ∙ get_or-take w queue (i + 1) nought (omega arith)
-        ∙ sym (set_at_lem (w - 1) i (next_in_queue queue) queue nought b (omega (arith, long))))
+        let b = ltb-true i last y in
+        get_or_append_left part (drop last queue) nought i (omega (arith, same))
+        ∙ next i nought b
+        ∙ sym (set_at_lem last i (next_in_queue queue) queue nought b (omega (arith, long))))
         (λ f.
-        let g : w ≤ i = omega (arith, n, ltb-false i (w - 1) f) in
-        get_or-append_right turned (drop w queue) w i nought same g
-        ∙ get_or-drop w queue (i - w) nought
+        let g : last ≤ i = omega (arith, ltb-false i last f) in
+        get_or-append_right part (drop last queue) last i nought same g
+        ∙ get_or-drop last queue (i - last) nought
         ∙ ap (λ k. get_or queue k nought) (omega arith)
-        ∙ sym (set_past (w - 1) i (next_in_queue queue) queue nought (omega arith)))
+        ∙ sym (set_past last i (next_in_queue queue) queue nought (omega arith)))
 
-    pub shift_done : set (turned ++ drop w queue) (w - 1) nought ≡ shifted queue (w - 1)
+    pub shift_done : set (part ++ drop last queue) last nought ≡ shifted queue last
     unfolding shifted
     shift_done =
-        ext_get_or
-        nought
-        (set (turned ++ drop w queue) (w - 1) nought)
-        (set moved (w - 1) nought)
-        (length-set (turned ++ drop w queue) (w - 1) nought ∙ whole ∙ sym (length-set moved (w - 1) nought ∙ sixteen))
-        (λ i l.
-        split
-        (eqb i (w - 1))
-        (λ y.
-        let e = eqb-true i (w - 1) y in
-        rw e
-        (get_or-set_same (turned ++ drop w queue) (w - 1) nought nought (omega (arith, whole))
-        ∙ sym (get_or-set_same moved (w - 1) nought nought (omega (arith, sixteen)))))
-        (λ n.
-        let e = eqb-false i (w - 1) n in
-        get_or-set_other (turned ++ drop w queue) (w - 1) i nought nought e
-        ∙ place i (omega (arith, l, length-set (turned ++ drop w queue) (w - 1) nought, whole)) e
-        ∙ sym (get_or-set_other moved (w - 1) i nought nought e)))
+        ap
+        (λ q. set q last nought)
+        (ext_get_or nought (part ++ drop last queue) moved (whole ∙ sym sixteen) (λ i l. place i))
 
 joined_parts
     : (st : State) (t r : ℕ) (task : Task) (resource : Resource)

@@ -44,14 +44,16 @@ pub fn enqueued(t: TaskNo, mut resource: Resource) -> Resource
     resource
 }
 
-// The others one place on, and the last place given up.
-fn shifted(mut queue: [TaskNo; 16], waiting: usize) -> [TaskNo; 16]
+// The others one place on, and the last place given up. From one array into another: `rotate_left` asks for `memmove`, which a kernel may not have.
+fn shifted(queue: [TaskNo; 16], waiting: usize) -> [TaskNo; 16]
     requires { (0 < waiting) × (waiting ≤ 16) }
     ensures { result ≡ shifted queue (waiting - 1) }
 {
-    queue[..waiting].rotate_left(1);
-    queue[waiting - 1] = TaskNo(0);
-    queue
+    let last = waiting - 1;
+    let mut after = queue;
+    after[..last].copy_from_slice(&queue[1..waiting]);
+    after[last] = TaskNo(0);
+    after
 }
 
 // The queue with its first given up.

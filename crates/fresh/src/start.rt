@@ -1,6 +1,6 @@
 // The fresh state of a table and its refusals 19 to 21, in the order of rule 5.4. Lines past the table's tasks are not read. Assumes nothing.
-ghost use Rattle.std.specs.Prelude.{◌≡◌, ◌≤◌, ◌<◌};
-ghost use Rattle.model.specs.Fresh.{entry_refusal, fresh_refusal, fresh_server_at, fresh_task_at, fresh_state, fresh_of};
+ghost use Rattle.std.specs.Prelude.{◌≡◌, ◌≤◌};
+ghost use Rattle.model.specs.Fresh.{entry_refusal, fresh_refusal, fresh_server, fresh_task, fresh_state, fresh_of};
 ghost use Rattle.model.specs.Refusals.{numbered};
 ghost use Rattle.model.specs.Said.{said_fresh};
 ghost use Rattle.model.specs.Verdicts.{verdict};
@@ -9,18 +9,11 @@ ghost use Rattle.fresh.specs.Start.{fresh_says};
 use model::blank::{blank_server, blank_task, unusable_state};
 use model::limits::{counts_fit, declared_fits, quota_fits};
 use model::{Entry, FreshOutcome, Refusal, Server, State, Table, Task};
-use std::array;
 
-// A server in use (rule 5.2), or blank.
-#[tactic(auto, unfolding(model::specs::Fresh::fresh_server_at))]
-fn fresh_server(tb: &Table, s: usize) -> Server
-    requires { s < 16 }
-    ensures { result ≡ fresh_server_at tb.now s }
+// A server in use (rule 5.2).
+fn fresh_server(entry: &Entry) -> Server
+    ensures { result ≡ fresh_server entry.now }
 {
-    if s >= tb.tasks as usize {
-        return blank_server();
-    }
-    let entry = tb.entry[s];
     Server {
         budget: entry.quota,
         quota: entry.quota,
@@ -29,33 +22,32 @@ fn fresh_server(tb: &Table, s: usize) -> Server
     }
 }
 
-// A task in use (rule 5.2), or blank.
-#[tactic(auto, unfolding(model::specs::Fresh::fresh_task_at))]
-fn fresh_task(tb: &Table, t: usize) -> Task
-    requires { t < 16 }
-    ensures { result ≡ fresh_task_at tb.now t }
+// A task in use (rule 5.2).
+fn fresh_task(entry: &Entry) -> Task
+    ensures { result ≡ fresh_task entry.now }
 {
-    if t >= tb.tasks as usize {
-        return blank_task();
-    }
     Task {
-        declared: tb.entry[t].declared,
+        declared: entry.declared,
         ..blank_task()
     }
 }
 
-// The state of a table that is not refused.
+// The state of a table that is not refused. The entries in use alone are made, since the others are blank in the state of no use: all sixteen by `from_fn`
+// took a third more time, and a replay starts with a fresh for each line of its table.
 fn fresh_state(tb: &Table) -> State
     ensures { result ≡ fresh_state tb.now }
 {
-    State {
+    let mut state = State {
         processors: tb.processors,
         tasks: tb.tasks,
         resources: tb.resources,
-        server: array::from_fn(|s| fresh_server(tb, s)),
-        task: array::from_fn(|t| fresh_task(tb, t)),
         ..unusable_state()
+    };
+    for (i, entry) in tb.entry[..usize::from(tb.tasks).min(16)].iter().enumerate() {
+        state.server[i] = fresh_server(entry);
+        state.task[i] = fresh_task(entry);
     }
+    state
 }
 
 // One line of the table: 20 before 21.
@@ -93,10 +85,15 @@ pub fn fresh(tb: Table) -> FreshOutcome
     ensures says { said_fresh (numbered result.answer) ≡ fresh_says (fresh_refusal tb) }
 {
     let answer = table_test(tb);
-    let state = if answer.is_ok() {
-        fresh_state(&tb)
-    } else {
-        unusable_state()
-    };
-    FreshOutcome { answer, state }
+    // as the value of an `if` the state would be copied once more
+    if answer.is_err() {
+        return FreshOutcome {
+            answer,
+            state: unusable_state(),
+        };
+    }
+    FreshOutcome {
+        answer,
+        state: fresh_state(&tb),
+    }
 }

@@ -14,6 +14,6 @@ pub use tags::phase_tag;
 
 pub mod reading;
 pub mod sizes;
-mod tags;
+pub mod tags;
 mod testing;
 pub mod writing;

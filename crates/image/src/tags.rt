@@ -85,7 +85,7 @@ pub fn phase_tag(phase: Phase) -> u8
     phase as u8
 }
 
-pub fn phase_of(tag: u8) -> Phase
+pub(crate) fn phase_of(tag: u8) -> Phase
     ensures { result ≡ phase_of tag }
 {
     match tag {

@@ -1,11 +1,12 @@
 -- Bytes that stand in others from an offset on. Assumes nothing.
-use mathlib.Core.Path.{◌≡◌, subst}
+use mathlib.Core.Path.{◌≡◌, refl, sym, subst, ◌∙◌}
 use mathlib.Core.List.{List, [], ◌∷◌, ◌++◌}
 use mathlib.Core.Logic.{⊎_elim}
 use Prim.Native.Nat.{ℕ, zero, suc, ◌+◌, ◌*◌, ◌<◌}
 use native.Mathlib.Nat.{add-zero, zero-add}
 use native.Mathlib.Omega.{arith}
 use lib.ListN.{length, get_or}
+use lib.Seq.{ext_get_or}
 use Rattle.laws.specs.Loops.{join_to}
 use Rattle.laws.proofs.Fold.{last_or_below}
 use Rattle.laws.proofs.Join.{join_long}
@@ -64,3 +65,14 @@ stands_each (v ∷ vs) bytes at h = (
 
 pub stands_self : (vs : List ℕ) → Stands vs vs 0
 stands_self vs = stands_each vs vs 0 (λ i l. rw zero-add)
+
+-- what stands at the start and is as long is the whole
+stands_at : (vs bytes : List ℕ) (at i : ℕ) → i < length vs → Stands vs bytes at → get_or vs i 0 ≡ byte_at bytes (at + i)
+stands_at [] bytes at i l h = absurd (omega arith)
+stands_at (v ∷ vs) bytes at zero l h = rw add-zero (sym h.0)
+stands_at (v ∷ vs) bytes at (suc i) l h =
+    stands_at vs bytes (at + 1) i (omega arith) h.1 ∙ subst (λ k. byte_at bytes k ≡ byte_at bytes (at + suc i)) (omega arith) refl
+
+pub stands_whole : (vs bytes : List ℕ) → length vs ≡ length bytes → Stands vs bytes 0 → vs ≡ bytes
+stands_whole vs bytes e h =
+    ext_get_or 0 vs bytes e (λ i l. stands_at vs bytes 0 i l h ∙ subst (λ k. byte_at bytes k ≡ byte_at bytes i) (omega arith) refl)

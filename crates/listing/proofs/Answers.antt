@@ -6,7 +6,8 @@ use Prim.Native.Nat.{ℕ, ◌<◌, ◌≤◌}
 use native.Mathlib.Omega.{arith}
 use lib.Dec.{leb}
 use lib.ListN.{length, drop}
-use borrow.Author.Tests.{lt-ltb, le-ltb, le-leb}
+use borrow.Author.Tests.{lt-ltb, le-ltb, le-leb, leb-true}
+use Rattle.laws.proofs.Cases.{split}
 use Rattle.lent_bytes.specs.Writing.{Wrote}
 use Rattle.lent_bytes.proofs.Writing.{stored_first}
 use Rattle.trace.specs.Reading.{items}
@@ -47,6 +48,22 @@ module _ (file lent : List ℕ) where
   pub has_room : room (length file) ≤ length lent → replayed file (length lent) ≡ Ok (length (listing file))
   unfolding replayed
   has_room l = rw (le-leb (room (length file)) (length lent) l)
+
+  -- what is written lies within the buffer
+  pub written_fits : (n : ℕ) → ◌≡◌ {A = Replayed} (Ok n) (replayed file (length lent)) → n ≤ length lent
+  unfolding replayed
+  written_fits n e =
+      split
+      (leb (room (length file)) (length lent))
+      (λ y.
+      let w : ◌≡◌ {A = Replayed} (Ok n) (Ok (length (listing file))) = rw y at e in
+      let h : n ≡ length (listing file) = cc in
+      let l : room (length file) ≤ length lent = leb-true _ _ y in
+      omega (arith, listing_fits file))
+      (λ f.
+      let w : ◌≡◌ {A = Replayed} (Ok n) (Err (record {})) = rw f at e in
+      let z : ◌≡◌ {A = ℕ} 0 1 = cc in
+      absurd (omega arith))
 
   -- the bytes at exit, in plain words: the whole text, then what stood there
   pub buffer_is : room (length file) ≤ length lent → buffer_after file lent ≡ listing file ++ drop (length (listing file)) lent

@@ -68,7 +68,7 @@ module _ (file : List ℕ) where
 
 module _ {file : List ℕ} {tb : Table} {at k : ℕ} (h : Begun file tb at k) where
   -- where there is still an entry to read
-  begun_text : k < tb.tasks → text_from file (started (entering tb k)) at ≡ text_from file beginning 0
+  pub begun_text : k < tb.tasks → text_from file (started (entering tb k)) at ≡ text_from file beginning 0
   begun_text l = rw (ne_eqb k tb.tasks (λ q. omega arith)) at h.same
 
   -- the ways to stop there

@@ -1,8 +1,6 @@
--- How the code of a replay goes: the text from a place on, the reading of the table, the test of the counts alone, and a replay past its table; and the
--- parts of what an answer says. The laws that join each to the definitions of `Listing` are named beside it; nobody has to believe this file. Assumes
--- nothing.
-use Rattle.std.specs.Prelude.{◌≡◌, List, [], ◌++◌, ℕ, ◌*◌, ◌<◌, ◌≤◌, eqb, length, replicate, true, if◌then◌else◌, Result, Ok, Err, Some, None}
-use Rattle.std.specs.Prelude as rust
+-- How the code of a replay goes: the text from a place on, the reading of the table, the test of the counts alone, and a replay past its table. The laws
+-- that join each to the definitions of `Listing` are named beside it; nobody has to believe this file. Assumes nothing.
+use Rattle.std.specs.Prelude.{◌≡◌, List, ◌++◌, ℕ, ◌*◌, ◌<◌, ◌≤◌, eqb, length, replicate, true, if◌then◌else◌, Result, Ok, Err, Some, None}
 use Rattle.std.proofs.Math.Option.{none}
 use Rattle.model.specs.declared.Entry.{Entry}
 use Rattle.model.specs.declared.Table.{Table}
@@ -17,8 +15,6 @@ use Rattle.trace.specs.declared.Place.{Place}
 use Rattle.trace.specs.declared.Record.{Record}
 use Rattle.trace.specs.Reading.{Read, items_at}
 use Rattle.trace.specs.Order.{Stage, entering, complete, counted_table}
-use Rattle.listing.specs.declared.lines.Saying.{Saying}
-use Rattle.listing.specs.Text.{field}
 use Rattle.listing.specs.Listing.{Progress, beginning, started, stop_line, end_lines, items_text}
 use Rattle.listing.specs.Replay.{room_each}
 use Rattle.listing.specs.Writer.{Writes}
@@ -83,11 +79,3 @@ pub record Listed (n : ℕ) (before : Writer) (text last : List ℕ) (after : Wr
   pub lines : List ℕ
   pub writes : Writes (room_each * n) before lines after
   pub whole : lines ++ last ≡ text
-
--- what an answer says, by its parts
-abbrev pub follows : rust.Option ℕ → List ℕ
-follows None = []
-follows (Some n) = field n
-
-abbrev pub saying_text : Saying → List ℕ
-saying_text s = s.word.now ++ field s.number ++ follows s.following

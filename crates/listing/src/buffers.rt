@@ -2,6 +2,7 @@
 // that a short trace is listed without a long buffer to clear. The contract also says how long a buffer is, so that no proof above has to write the
 // zeros out. Assumes nothing.
 ghost use Rattle.std.specs.Prelude.{◌≡◌, length, replicate};
+ghost use Rattle.listing.specs.Replay.{file_bytes, text_bytes, short_text_bytes};
 
 // Rule 13.7.
 pub const FILE_LIMIT: usize = 60000;
@@ -26,4 +27,26 @@ pub fn buffer<const N: usize>() -> [u8; N]
     ensures long { N ≡ length result }
 {
     [0; N]
+}
+
+// Each of the three is `buffer`; that its length is the one of the definitions stands here, where the constants are.
+pub fn file_buffer() -> [u8; FILE_BYTES]
+    ensures value { result ≡ replicate file_bytes 0 }
+    ensures long { file_bytes ≡ length result }
+{
+    buffer()
+}
+
+pub fn text_buffer() -> [u8; TEXT_BYTES]
+    ensures value { result ≡ replicate text_bytes 0 }
+    ensures long { text_bytes ≡ length result }
+{
+    buffer()
+}
+
+pub fn short_text_buffer() -> [u8; SHORT_TEXT_BYTES]
+    ensures value { result ≡ replicate short_text_bytes 0 }
+    ensures long { short_text_bytes ≡ length result }
+{
+    buffer()
 }

@@ -74,7 +74,7 @@ sound_fit : (st : State) → sound st ≡ true → st.tasks ≤ places
 sound_fit st e = ((sound_facts st).holds e).is_loose.tasks_most
 
 -- in a sound state as many rows are written as there are tasks
-sound_counted : (st : State) → sound st ≡ true → count_to places (here st) ≡ st.tasks
+pub sound_counted : (st : State) → sound st ≡ true → count_to places (here st) ≡ st.tasks
 sound_counted st e = tasks_counted st (sound_fit st e)
 
 module _ (st : State) (lent : ℕ) where

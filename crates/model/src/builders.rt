@@ -37,8 +37,18 @@ impl Resource {
     }
 }
 
+// The number and the given state, unchanged: any number, also one that no refusal has.
+pub fn refused(st: State, number: u16) -> Outcome
+    ensures { result ≡ record { answer = Answer.Refused number; state = st } }
+{
+    Outcome {
+        answer: Answer::Refused(number),
+        state: st,
+    }
+}
+
 impl Outcome {
-    // The number and the given state, unchanged.
+    // The same of a refusal by its name. It stands beside the other, and is no call of it: a state handed on is a state copied.
     pub fn refused(state: State, refusal: Refusal) -> Outcome
         ensures { result ≡ record { answer = Answer.Refused (refusal_no refusal); state = state } }
     {

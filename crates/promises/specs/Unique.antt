@@ -35,8 +35,16 @@ use Rattle.trace.proofs.kinds.is_event.Reads as IsEvent
 use Rattle.trace.proofs.kinds.event_of.Reads as EventOf
 use Rattle.listing.proofs.whole.replay.Reads as Replay
 use Rattle.listing.proofs.buffers.buffer.Reads as Buffer
+use Rattle.listing.proofs.buffers.file_buffer.Reads as FileBuffer
+use Rattle.listing.proofs.buffers.text_buffer.Reads as TextBuffer
+use Rattle.listing.proofs.buffers.short_text_buffer.Reads as ShortTextBuffer
 use Rattle.image.proofs.reading.read.Reads as ReadImage
 use Rattle.image.proofs.writing.write.Reads as WriteImage
+use Rattle.image.proofs.tags.phase_tag.Reads as PhaseTag
+use Rattle.image.proofs.tags.TaggedFromMode.from.Reads as ModeTagged
+use Rattle.image.proofs.tags.ModeFromTagged.from.Reads as ModeOf
+use Rattle.image.proofs.tags.TaggedFromOptionU16.from.Reads as NumberTagged
+use Rattle.image.proofs.tags.OptionU16FromTagged.from.Reads as NumberOf
 use Rattle.vesztamor.proofs.layouts.vesztamor_layout.Reads as ExportLayout
 use Rattle.vesztamor.proofs.states.vesztamor_fresh.Reads as ExportFresh
 use Rattle.vesztamor.proofs.states.vesztamor_is_sound.Reads as ExportIsSound
@@ -54,7 +62,8 @@ use Rattle.model.proofs.Server.with_phase.Reads as WithPhase
 use Rattle.model.proofs.Task.with_mode.Reads as WithMode
 use Rattle.model.proofs.Task.with_runs.Reads as WithRuns
 use Rattle.model.proofs.Resource.with_owner.Reads as WithOwner
-use Rattle.model.proofs.Outcome.refused.Reads as Refused
+use Rattle.model.proofs.builders.refused.Reads as Refused
+use Rattle.model.proofs.Outcome.refused.Reads as RefusedByName
 use Rattle.model.proofs.entries.executor_in.Reads as ExecutorIn
 use Rattle.model.proofs.entries.in_use.Reads as InUse
 use Rattle.model.proofs.entries.in_set.Reads as InSet
@@ -121,9 +130,17 @@ pub record EachUnique : Type 2 where
   pub event_of_lem : Unique EventOf.Post
   pub replay : UniqueLent Replay.Post (λ κ x. x.1.0.now)
   pub buffer : (n : ℕ) (small : Fits w64 n) → Unique (Buffer.Post n small)
+  pub file_buffer : Unique FileBuffer.Post
+  pub text_buffer : Unique TextBuffer.Post
+  pub short_text_buffer : Unique ShortTextBuffer.Post
   -- A state in lent bytes.
   pub read_image : Unique ReadImage.Post
   pub write_image : UniqueLent WriteImage.Post (λ κ x. x.1.0.now)
+  pub phase_tag : Unique PhaseTag.Post
+  pub mode_tagged : Unique ModeTagged.Post
+  pub mode_of : Unique ModeOf.Post
+  pub number_tagged : Unique NumberTagged.Post
+  pub number_of : Unique NumberOf.Post
   -- The static library.
   pub export_layout : Unique ExportLayout.Post
   pub export_fresh : UniqueLent ExportFresh.Post (λ κ x. x.1.0.now)
@@ -144,6 +161,7 @@ pub record EachUnique : Type 2 where
   pub with_runs_lem : Unique WithRuns.Post
   pub with_owner_lem : Unique WithOwner.Post
   pub refused : Unique Refused.Post
+  pub refused_by_name : Unique RefusedByName.Post
   pub executor_in_lem : Unique ExecutorIn.Post
   pub in_use : Unique InUse.Post
   pub in_set_lem : Unique InSet.Post

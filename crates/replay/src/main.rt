@@ -6,7 +6,7 @@ ghost use Rattle.std.specs.Prelude.{◌≡◌, ◌≤◌, length, take, IfOk};
 ghost use Rattle.listing.specs.Listing.{listing};
 ghost use Rattle.listing.specs.Replay.{room};
 
-use listing::buffers::{FILE_BYTES, SHORT_FILE, SHORT_TEXT_BYTES, TEXT_BYTES, buffer};
+use listing::buffers::{SHORT_FILE, file_buffer, short_text_buffer, text_buffer};
 use listing::whole::replay;
 use std::io;
 use std::io::Read;
@@ -48,7 +48,7 @@ fn print(rt: &(impl Print + Eprint), file: &[u8], out: &mut [u8])
 }
 
 fn main(rt: HostRuntime) {
-    let mut file = buffer::<FILE_BYTES>();
+    let mut file = file_buffer();
     let n = match read_all(&rt, &mut file) {
         Ok(n) => n,
         Err(error) => {
@@ -60,8 +60,8 @@ fn main(rt: HostRuntime) {
     };
     // A short trace has a short buffer to clear.
     if n <= SHORT_FILE {
-        print(&rt, &file[..n], &mut buffer::<SHORT_TEXT_BYTES>());
+        print(&rt, &file[..n], &mut short_text_buffer());
     } else {
-        print(&rt, &file[..n], &mut buffer::<TEXT_BYTES>());
+        print(&rt, &file[..n], &mut text_buffer());
     }
 }

@@ -1,5 +1,5 @@
-// A state with what the test reads off its chains, once. That the arrays are this state's stands in the type, so that no test has to ask for it.
-// Assumes that the state has no more resources than places.
+// A state with what the test reads off it, each array once and where it is wanted first, so that a state that fails before is refused without it. That the
+// arrays are this state's stands in the types, so that no test has to ask for it. Assumes that the state has no more resources than places.
 ghost use Rattle.std.specs.Prelude.{◌≡◌, ◌&&◌, ◌<◌, ◌≤◌};
 ghost use Rattle.laws.specs.Loops.{sum_to};
 ghost use Rattle.model.specs.State.{owner_of};
@@ -15,19 +15,31 @@ use chain::walk::ends_by;
 use model::entries::in_use;
 use model::{State, TaskNo};
 
-// Who owns each resource, what each task waits for, where each chain ends, and whom the servers run for.
+// Who owns each resource.
 #[derive(Clone, Copy)]
 pub(crate) struct Reading<'a> {
     st: &'a State,
     owners: [u16; 16],
-    wants: [u16; 16],
-    ends: [TaskNo; 16],
-    runs_by: [u16; 16],
     ghost sizes: { st.now.resources ≤ 16 },
     ghost owners_read: { owners ≡ array_of (owner_of st.now) },
-    ghost wants_read: { wants ≡ wanted_of st.now },
-    ghost ends_read: { ends ≡ ends_of st.now },
-    ghost runs_read: { runs_by ≡ array_of (runs_for st.now) },
+}
+
+// And what each task waits for.
+#[derive(Clone, Copy)]
+struct Waits<'a> {
+    reading: Reading<'a>,
+    wants: [u16; 16],
+    ghost wants_read: { wants ≡ wanted_of reading.st.now },
+}
+
+// And where each chain ends, and whom the servers run for.
+#[derive(Clone, Copy)]
+struct Chains<'a> {
+    waits: Waits<'a>,
+    ends: [TaskNo; 16],
+    runs_by: [u16; 16],
+    ghost ends_read: { ends ≡ ends_of waits.reading.st.now },
+    ghost runs_read: { runs_by ≡ array_of (runs_for waits.reading.st.now) },
 }
 
 impl<'a> Reading<'a> {
@@ -36,16 +48,7 @@ impl<'a> Reading<'a> {
         ensures { result.st.now ≡ st.now }
     {
         let owners = numbers(owners(*st));
-        let wants = wanted(*st);
-        let ends = ends_by(&owners, &wants);
-        let runs_by = numbers(running_for(st.server, st.tasks, ends));
-        Reading {
-            st,
-            owners,
-            wants,
-            ends,
-            runs_by,
-        }
+        Reading { st, owners }
     }
 
     // Task t, if it is in use.
@@ -80,22 +83,45 @@ impl<'a> Reading<'a> {
         (0..16).all(|t| self.task_passes(t)) && self.stacked() == u32::from(used(&self.owners))
     }
 
+    // All of these, and those of what tasks wait for and of the chains.
+    pub(crate) fn passes(&self) -> bool
+        ensures { result ≡ (tasks_pass self.now.st.now && resources_pass self.now.st.now && servers_pass self.now.st.now) }
+    {
+        self.tasks_pass() && Waits::of(*self).passes()
+    }
+}
+
+impl<'a> Waits<'a> {
+    fn of(reading: Reading<'a>) -> Waits<'a>
+        ensures { result.reading.st.now ≡ reading.entry.st.now }
+    {
+        Waits {
+            reading,
+            wants: wanted(*reading.st),
+        }
+    }
+
     // Resource r, if it is in use.
     #[tactic(auto, unfolding(model::specs::Sound::if_present, model::specs::State::present, crate::specs::Computed::resource_passes_at))]
     fn resource_passes(&self, r: usize) -> bool
         requires { r < 16 }
-        ensures { result ≡ if_present self.now.st.now (resource_passes_at self.now.st.now) r }
+        ensures { result ≡ if_present self.now.reading.st.now (resource_passes_at self.now.reading.st.now) r }
     {
-        let st = self.st;
+        let st = self.reading.st;
         !in_use(st.resources, r)
-            || resource_passes(self.owners[r], &self.wants, r as u16, &st.resource[r])
+            || resource_passes(
+                self.reading.owners[r],
+                &self.wants,
+                r as u16,
+                &st.resource[r],
+            )
     }
 
     // How many entries there are in queues. A sum over both arrays alike would take the array, its count and which number to add, and be longer than this.
     fn queued(&self) -> u32
-        ensures { result ≡ sum_to 16 (length_at self.now.st.now) }
+        ensures { result ≡ sum_to 16 (length_at self.now.reading.st.now) }
     {
-        let st = self.st;
+        let st = self.reading.st;
         let mut total = 0;
         for (r, resource) in st.resource.iter().enumerate() {
             if in_use(st.resources, r) {
@@ -107,37 +133,53 @@ impl<'a> Reading<'a> {
 
     // Each resource in use, and as many entries in queues as waiting tasks.
     fn resources_pass(&self) -> bool
-        ensures { result ≡ resources_pass self.now.st.now }
+        ensures { result ≡ resources_pass self.now.reading.st.now }
     {
         (0..16).all(|r| self.resource_passes(r)) && self.queued() == u32::from(used(&self.wants))
+    }
+
+    // All of these, and those of the chains.
+    fn passes(&self) -> bool
+        ensures { result ≡ (resources_pass self.now.reading.st.now && servers_pass self.now.reading.st.now) }
+    {
+        self.resources_pass() && Chains::of(*self).servers_pass()
+    }
+}
+
+impl<'a> Chains<'a> {
+    fn of(waits: Waits<'a>) -> Chains<'a>
+        ensures { result.waits.reading.st.now ≡ waits.entry.reading.st.now }
+    {
+        let st = waits.reading.st;
+        let ends = ends_by(&waits.reading.owners, &waits.wants);
+        let runs_by = numbers(running_for(st.server, st.tasks, ends));
+        Chains {
+            waits,
+            ends,
+            runs_by,
+        }
     }
 
     // Server i, if it is in use: its own numbers, its chain, the task that it serves, and where its own task executes.
     fn server_passes(&self, i: usize) -> bool
         requires { i < 16 }
-        ensures { result ≡ if_here self.now.st.now (server_passes_at self.now.st.now) i }
+        ensures { result ≡ if_here self.now.waits.reading.st.now (server_passes_at self.now.waits.reading.st.now) i }
     {
-        let st = self.st;
+        let st = self.waits.reading.st;
         if !in_use(st.tasks, i) {
             return true;
         }
         let end = self.ends[i].0 as usize;
-        let link = at_or_nobody(&self.owners, self.wants[end]);
+        let link = at_or_nobody(&self.waits.reading.owners, self.waits.wants[end]);
         server_passes(st.clock, &st.server[i], link, &st.task[end])
             && executes_passes(&self.runs_by, i as u16, st.task[i].runs)
     }
 
     // As many running as there are processors (rule 4.6), and each server in use.
     fn servers_pass(&self) -> bool
-        ensures { result ≡ servers_pass self.now.st.now }
+        ensures { result ≡ servers_pass self.now.waits.reading.st.now }
     {
-        used(&self.runs_by) <= self.st.processors && (0..16).all(|i| self.server_passes(i))
-    }
-
-    // All of these.
-    pub(crate) fn passes(&self) -> bool
-        ensures { result ≡ (tasks_pass self.now.st.now && resources_pass self.now.st.now && servers_pass self.now.st.now) }
-    {
-        self.tasks_pass() && self.resources_pass() && self.servers_pass()
+        used(&self.runs_by) <= self.waits.reading.st.processors
+            && (0..16).all(|i| self.server_passes(i))
     }
 }

@@ -28,13 +28,14 @@ pub fn attempted(st: State, e: Event) -> Outcome
     requires { sound st ≡ true }
     ensures { result ≡ attempted st e }
 {
-    match events::event::refusal(st, e) {
-        Ok(()) => taken(st, e),
-        Err(refusal) => Outcome {
+    // as the value of a `match` the state would be copied once more
+    if let Err(refusal) = events::event::refusal(st, e) {
+        return Outcome {
             answer: events::event::refusing(st, e, u16::from(refusal)),
             state: st,
-        },
+        };
     }
+    taken(st, e)
 }
 
 // The answer to an event, and the next state. An unsound state is refused and handed back as it came.

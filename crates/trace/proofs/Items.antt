@@ -14,7 +14,7 @@ use Rattle.lent_bytes.specs.Numbers.{two_bytes}
 use Rattle.trace.specs.Reading.{body_length, Read, got, read_fault, read_at, items_after, items_from, items_at}
 
 -- a known kind's body has two bytes or more
-body_least : (k : ℕ) → (body_length k ≡ 0 → ⊥) → 2 ≤ body_length k
+pub body_least : (k : ℕ) → (body_length k ≡ 0 → ⊥) → 2 ≤ body_length k
 unfolding body_length
 body_least k known = grind (arith, common_steps)
 

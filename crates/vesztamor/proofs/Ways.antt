@@ -25,7 +25,7 @@ pub both
 both x said left r exit e a b = record { answer = a ∙ ap (λ y. packed y.answer) (sym e); bytes = b ∙ ap (λ y. y.bytes) (sym e) }
 
 -- memory as long as a state takes the state
-written_whole : (st : State) (bytes : List ℕ) → length bytes ≡ image_size → written st bytes ≡ encoded st bytes
+pub written_whole : (st : State) (bytes : List ℕ) → length bytes ≡ image_size → written st bytes ≡ encoded st bytes
 written_whole st bytes e = rw (eq-eqb (length bytes) image_size e)
 
 -- a state written over zeros

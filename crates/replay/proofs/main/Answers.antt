@@ -22,10 +22,10 @@ module _ (n : ℕ) (file : List ℕ) (w : n ≤ length file) where
 
 pub print-requires : goal.print-requires
 unfolding room
-print-requires c = room_short _ _ (c.in-Ok.ensures) _ (omega arith) c.buffer.ensures.long
+print-requires c = room_short _ _ (c.in-Ok.ensures) _ (omega arith) c.short_text_buffer.ensures.long
 
 pub print-requires-else-n-le-SHORT_FILE : goal.print-requires-else-n-le-SHORT_FILE
 unfolding room
 print-requires-else-n-le-SHORT_FILE c =
-    let long : length c.read_all.new.file ≡ file_bytes = omega (arith, c.read_all.auto.file, c.buffer-file.ensures.long) in
-    room_whole _ _ (c.in-Ok.ensures) _ long c.buffer-else-n-le-SHORT_FILE.ensures.long
+    let long : length c.read_all.new.file ≡ file_bytes = omega (arith, c.read_all.auto.file, c.file_buffer-file.ensures.long) in
+    room_whole _ _ (c.in-Ok.ensures) _ long c.text_buffer.ensures.long

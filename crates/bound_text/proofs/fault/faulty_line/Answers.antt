@@ -11,7 +11,7 @@ loop-i-init c = record { begun = omega arith; rest = search_begins _ _ _ c.is_re
 
 pub returns-then-is_refused-2 : goal.returns-then-is_refused-2
 returns-then-is_refused-2 c =
-    line_told _ _ _ _ c.is_refused-in-loop-i.ensures (omega arith) c.if-is_refused-2.true ∙ c.loop-i.invariant.rest
+    c.line_read.ensures ∙ line_told _ _ _ _ c.is_refused-in-loop-i.ensures (omega arith) c.if-is_refused-2.true ∙ c.loop-i.invariant.rest
 
 pub loop-i-preserved : goal.loop-i-preserved
 loop-i-preserved c = record {

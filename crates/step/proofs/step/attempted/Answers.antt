@@ -6,8 +6,8 @@ use Rattle.events.proofs.Refusals.{passed_clear}
 use Rattle.step.proofs.Steps.{attempt_refused, attempt_taken}
 use Rattle.step.proofs.step.attempted.Goals as goal
 
-pub returns-in-Ok : goal.returns-in-Ok
-returns-in-Ok c = attempt_taken _ _ _ (passed_clear _ _ c.refusal.result _ c.refusal.ensures c.requires c.in-Ok.is) c.taken.ensures
+pub returns : goal.returns
+returns c = attempt_taken _ _ _ (passed_clear _ _ c.refusal.result _ c.refusal.ensures c.requires c.in_default.is) c.taken.ensures
 
 pub returns-in-Err : goal.returns-in-Err
 returns-in-Err c =

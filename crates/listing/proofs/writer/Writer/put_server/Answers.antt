@@ -8,16 +8,15 @@ use Rattle.listing.proofs.writer.Writer.put_server.Goals as goal
 pub returns : goal.returns
 unfolding newline bytes
 returns c =
-    rw (← c.phase_word.ensures.word)
-    (writes_most (omega (arith, c.phase_word.ensures.short))
+    writes_most (omega arith)
     (writes_then
     (writes_then
     (writes_then
     (writes_then
     (writes_then
-    (writes_then (writes_then (writes_then c.put_named.ensures c.put_text.ensures) c.put_text-2.ensures) c.put_field.ensures)
+    (writes_then (writes_then (writes_then c.put_named.ensures c.put_text.ensures) c.put_phase.ensures) c.put_field.ensures)
     c.put_field-2.ensures)
     c.put_field-3.ensures)
     c.put_field-4.ensures)
     c.put_field-5.ensures)
-    c.put_text-3.ensures))
+    c.put_text-2.ensures)

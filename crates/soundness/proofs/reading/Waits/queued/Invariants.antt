@@ -2,7 +2,7 @@
 use Rattle.model.specs.State.{present}
 use Rattle.soundness.proofs.Passed.{waiters}
 use Rattle.soundness.proofs.Turns.{Counted}
-use Rattle.soundness.proofs.reading.Reading.queued.Given as goal
+use Rattle.soundness.proofs.reading.Waits.queued.Given as goal
 
 abbrev pub invariant-loop-r : goal.invariant-loop-r
-invariant-loop-r l = Counted (present l.fn.self.st.now) (waiters l.fn.self.st.now) l.r l.total
+invariant-loop-r l = Counted (present l.fn.self.reading.st.now) (waiters l.fn.self.reading.st.now) l.r l.total

@@ -1,10 +1,10 @@
--- `soundness::reading::Reading::server_passes` meets its contract. Assumes nothing.
+-- `soundness::reading::Chains::server_passes` meets its contract. Assumes nothing.
 use mathlib.Core.Path.{sym, ◌∙◌}
 use Rattle.model.specs.Sound.{if_here}
 use Rattle.model.specs.State.{here}
 use Rattle.chain.proofs.Arrays.{end_below}
 use Rattle.soundness.proofs.Turns.{server_fails, server_both}
-use Rattle.soundness.proofs.reading.Reading.server_passes.Goals as goal
+use Rattle.soundness.proofs.reading.Chains.server_passes.Goals as goal
 
 pub returns-then-not-in_use : goal.returns-then-not-in_use
 unfolding if_here here
@@ -21,7 +21,7 @@ unfolding if_here here
 returns-then-server_passes c =
     let self = c.args.self.now in
     rw (sym c.in_use.ensures ∙ c.if-not-in_use.false)
-    (server_both _ _ _ _ _ _ c.requires self.owners_read self.wants_read self.ends_read c.at_or_nobody-link.ensures _ c.server_passes.ensures
+    (server_both _ _ _ _ _ _ c.requires self.waits.reading.owners_read self.waits.wants_read self.ends_read c.at_or_nobody-link.ensures _ c.server_passes.ensures
     _ _ self.runs_read c.executes_passes.ensures c.if-server_passes.true)
 
 pub returns-else-server_passes : goal.returns-else-server_passes
@@ -31,5 +31,5 @@ returns-else-server_passes c =
     rw (sym c.in_use.ensures ∙ c.if-not-in_use.false)
     (c.if-server_passes.false
     ∙ sym
-    (server_fails _ _ _ _ _ _ c.requires self.owners_read self.wants_read self.ends_read c.at_or_nobody-link.ensures _ c.server_passes.ensures
+    (server_fails _ _ _ _ _ _ c.requires self.waits.reading.owners_read self.waits.wants_read self.ends_read c.at_or_nobody-link.ensures _ c.server_passes.ensures
     c.if-server_passes.false))
